@@ -14,9 +14,11 @@ use std::io;
 use std::io::{BufRead, BufReader, BufWriter, Write};
 use std::process::ExitCode;
 
-/// Answers each line of `input` on `output` over one graph of the written language and its rules, up to the end of the input. Each
-/// answer is written out before the next line is read. The first read or write that fails ends it, and so do bytes that
-/// are not UTF-8 and want of memory for a line; what was answered before stands.
+/// Answers each line of `input` on `output`, up to the end of the input. The lines share one graph over the language of
+/// `slotted_small`, and its rules.
+///
+/// Each answer is written out before the next line is read. A read or a write that fails ends the session, and so do
+/// bytes that are not UTF-8 and want of memory for a line. What was answered before stands.
 pub fn answer_lines<R: BufRead, W: Write>(
     alloc: Global,
     input: &mut R,
@@ -36,7 +38,7 @@ fn answer_streams(rt: &HostRuntime) -> io::Result<()> {
     answer_lines(alloc, &mut input, &mut output)
 }
 
-// The status at the end of a run: 0 where it ended well, and 1 where it did not.
+// Returns the status at the end of a run: 0 if the run ended well, else 1.
 fn status_of(outcome: &io::Result<()>) -> ExitCode
     ensures ok { IfOk outcome.now (λ _. result.status ≡ 0) }
     ensures err { IfErr outcome.now (λ _. result.status ≡ 1) }

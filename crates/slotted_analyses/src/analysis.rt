@@ -12,15 +12,16 @@ use slotted_languages::Language;
 use slotted_slots::{Error, Slot};
 use std::alloc::Global;
 
-/// Data for the classes of a graph, and edits that are asked for it.
+/// Data for the classes of a graph, and edits that are asked for each class.
 ///
-/// What a node makes is merged into the data of its class. Merging is commutative, associative and idempotent. A merge that changes data
-/// lowers its height, so the data of a class changes no more often than its height says.
+/// What an e-node makes is merged into the data of its class. The merge is commutative, associative and idempotent. A
+/// merge that changes data lowers its height, so the data of a class changes no more often than its height says.
 ///
-/// Of a node `make` may read the operator, the payloads, and which of its places have one name: all that is left of the node without its names
-/// and its children. Beside that it reads the data of the children. So alike nodes make alike data.
+/// Of an e-node `make` may read the operator, the payloads, and which of its places have one name. These are what is
+/// left of the e-node without its names and its children. `make` reads the data of the children too. So e-nodes that
+/// are equal up to names make equal data.
 ///
-/// A graph stores its analysis and the data of its classes as values, so both need a code, which tells their values apart.
+/// A graph stores its analysis and the data of its classes as values. Both need a code, which tells their values apart.
 pub trait Analysis<L: Language>: Drop {
     ghost use Rattle.std.specs.Prelude.{Bool};
     ghost use Rattle.std.specs.Coded.{Coded};
@@ -28,20 +29,21 @@ pub trait Analysis<L: Language>: Drop {
 
     type Data: Eq + Clone + Drop;
 
-    // What tells analyses of this type apart, and what tells data apart.
+    // Codes tell analyses of this type apart, and data of this type.
     ghost codes: { Coded Self × Coded Self.Data };
 
-    // What a node makes, the merge of two data, and the height of data. A node makes it of what is left of the node without its names and its
-    // children, where the operator is one more than the node's, and of the data of its children from the left.
+    // The meaning says what an e-node makes, the merge of two data, and the height of data. An e-node makes its data of
+    // what is left of it without its names and its children, and of the data of its children from the left. The
+    // operator is given as one more than the e-node's.
     ghost meaning: { Self → Meaning Self.Data };
 
-    // What may be asked for a class, by its data and its slots.
+    // `may_ask` says which edits may be asked for a class, by its data and its slots.
     ghost may_ask: { Self → Self.Data → List ℕ → Edit L → Type 0 } = { λ _ _ _ _. ⊥ };
 
-    // Whether classes are modified.
+    // `modifies` says whether classes are modified.
     ghost modifies: { Bool };
 
-    // What `modify` may refuse with.
+    // `refuses` says which errors `modify` may answer.
     ghost refuses: { Error → Type 0 };
 
     /// Returns data that equals this one.
@@ -49,13 +51,14 @@ pub trait Analysis<L: Language>: Drop {
         ensures ok { IfOk result (λ d. d ≡ «data».now) }
         ensures err { IfErr result IsOutOfMemory };
 
-    /// Returns what a node makes whose children have these data, from the left. A growth may be refused, and nothing else.
+    /// Returns what an e-node makes whose children have these data, from the left. No error is answered but a refused
+    /// growth.
     fn make(&self, alloc: Global, node: &L, child: &[Self::Data]) -> Result<Self::Data, Error>
         requires { HasValuesFor (L.form node.now) child.now }
         ensures ok { IfOk result (λ d. d ≡ (meaning self.now).make (bare_node (L.form node.now)) child.now) }
         ensures err { IfErr result IsOutOfMemory };
 
-    /// Returns the merge of two data. A growth may be refused, and nothing else.
+    /// Returns the merge of two data. No error is answered but a refused growth.
     fn merge(&self, alloc: Global, l: &Self::Data, r: &Self::Data) -> Result<Self::Data, Error>
         ensures ok { IfOk result (λ d. d ≡ (meaning self.now).merge l.now r.now) }
         ensures err { IfErr result IsOutOfMemory };
@@ -64,11 +67,12 @@ pub trait Analysis<L: Language>: Drop {
     fn height(&self, data: &Self::Data) -> u32
         ensures { result ≡ (meaning self.now).height «data».now };
 
-    /// Returns whether classes are modified. If they are not, `modify` is never called, and a write leaves what its contract says without rounds.
+    /// Returns whether classes are modified. If not, `modify` is never called, and a write does what its contract says
+    /// without rounds.
     fn modifies() -> bool
         ensures { result ≡ modifies };
 
-    /// Returns what is to be done for a class with this data and these slots, from the first edit to the last.
+    /// Returns the edits for a class with this data and these slots, from the first to the last.
     fn modify(
         &self,
         alloc: Global,
@@ -85,20 +89,21 @@ pub trait Analysis<L: Language>: Drop {
     // The merge is commutative, associative and idempotent, and lowers the height of what it changes.
     ghost is_merge: { (n : Self) → IsMergeOf (meaning n) };
 
-    // Data that is told to be equal is the same.
+    // Data that `eq` says to be equal is the same.
     ghost equal_is_same: { (x y : Self.Data) → IsTrue (Self.Data.eq x y) → x ≡ y };
 
-    // So it refuses for want of memory or of slots alone.
+    // `modify` refuses for want of memory or of slots alone.
     ghost only_shortages: { (e : Error) → refuses e → IsShortage e };
 }
 
-/// The merge of each analysis is one over which data is carried, and alike nodes make alike data.
+/// Proves that the merge of each analysis is one over which data can be carried, and that e-nodes that are equal up to
+/// names make equal data.
 pub fn analyses_merge<L: Language, N: Analysis<L>>()
     ensures merge { (n : N) → IsMerge N.Data (by_bare_nodes (N.meaning n)) }
     ensures alike { (n : N) → MakesAlike (λ _. Unit {0}) N.Data (by_bare_nodes (N.meaning n)) }
 {}
 
-/// Nothing is kept, and nothing asked.
+/// The analysis that keeps nothing and asks for nothing.
 impl<L: Language> Analysis<L> for () {
     ghost use Rattle.std.specs.Prelude.{false, refl};
     ghost use Rattle.slotted_analyses.specs.Meaning.{no_data, no_data_merges, unit_code};

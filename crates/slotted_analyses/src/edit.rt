@@ -2,13 +2,13 @@
 use slotted_languages::Language;
 use slotted_terms::RecExpr;
 
-/// Something to be done for a class.
+/// A change of a graph that an analysis asks for a class.
 #[derive(Drop, Debug)]
 pub enum Edit<L: Language> {
-    /// The term is added.
+    /// Adds the term.
     Add(RecExpr<L>),
-    /// The class at its own slots equals the term.
+    /// Makes the class, with its own slots as names, equal to the term.
     Equal(RecExpr<L>),
-    /// The two terms are equal.
+    /// Makes the two terms equal.
     Equate(RecExpr<L>, RecExpr<L>),
 }

@@ -1,6 +1,7 @@
-//! Analyses of a language: data of any type for each class, which is merged upwards, and edits that are asked for it.
+//! Analyses of a language: data of any type for each class, which is merged upwards, and edits that are asked for
+//! classes.
 //!
-//! What an analysis says, and what it has to keep, is told by [`Analysis`]. The unit type is one: it keeps nothing.
+//! [`Analysis`] tells what an analysis says, and what it has to keep. The unit type is an analysis that keeps nothing.
 #![tactic(auto)]
 
 pub mod analysis;

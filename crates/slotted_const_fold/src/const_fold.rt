@@ -1,4 +1,4 @@
-//! Constant folding over the written language.
+//! Constant folding over the language of `slotted_small`.
 ghost use Rattle.std.specs.Prelude.{◌≡◌, ◌+◌, ◌*◌, ℕ, List, Option};
 ghost use Rattle.std.proofs.Common.{inl};
 ghost use Rattle.slotted_slots.specs.Error.{IsOutOfMemory};
@@ -10,18 +10,18 @@ use slotted_small::Small;
 use slotted_terms::RecExpr;
 use std::alloc::Global;
 
-/// What is known of the number that a class comes to.
+/// What is known of the value of a class.
 #[derive(Clone, Copy, Debug, PartialEq, Eq)]
 pub enum Fold {
-    /// Nothing.
+    /// Nothing is known.
     None,
-    /// It is this number.
+    /// The value is this number.
     Number(u32),
-    /// It is two different numbers.
+    /// The class has two different numbers as its value.
     Conflict,
 }
 
-/// A sum or a product of two numbers comes to a number, which its class equals.
+/// An analysis by which a sum or a product of two known numbers makes its class equal to the result.
 #[derive(Drop, Default)]
 pub struct ConstFold;
 
@@ -95,7 +95,7 @@ impl Analysis<Small> for ConstFold {
     }
 }
 
-// Equal numbers are one, and two different ones are in conflict.
+// Returns the merge of two data. Equal numbers are one, and two different ones are in conflict.
 fn merged(l: Fold, r: Fold) -> Fold
     ensures { result ≡ fold_merged l r }
 {
@@ -107,7 +107,7 @@ fn merged(l: Fold, r: Fold) -> Fold
     }
 }
 
-// The number, if there is one.
+// Returns that the value is the number, or `None` if there is no number.
 fn known(n: Option<u32>) -> Fold
     ensures { result ≡ known_of n }
 {
@@ -117,7 +117,7 @@ fn known(n: Option<u32>) -> Fold
     }
 }
 
-// The sum of two children, if it fits.
+// Returns the sum of two children's data, if it fits.
 fn sum(l: Fold, r: Fold) -> Fold
     ensures { result ≡ both (λ m n. m + n) l r }
 {
@@ -129,7 +129,7 @@ fn sum(l: Fold, r: Fold) -> Fold
     }
 }
 
-// The product of two children, if it fits.
+// Returns the product of two children's data, if it fits.
 fn product(l: Fold, r: Fold) -> Fold
     ensures { result ≡ both (λ m n. m * n) l r }
 {

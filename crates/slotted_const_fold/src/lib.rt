@@ -1,4 +1,4 @@
-//! A worked analysis: constant folding over the written language.
+//! A worked analysis: constant folding over the language of `slotted_small`.
 #![tactic(auto)]
 
 pub mod const_fold;

@@ -1,4 +1,4 @@
-//! The data and the users of classes that died go to the classes that they find.
+//! The data and the users of dead classes go to the classes that `find` maps these to.
 ghost use Rattle.std.specs.Prelude.{◌≡◌, ◌<◌, ℕ, Contains, length, IfErr, OnOk};
 ghost use Rattle.slotted_slots.specs.Error.{IsOutOfMemory};
 ghost use Rattle.slotted_model.specs.Find.{IsLive};
@@ -18,7 +18,7 @@ use slotted_languages::Language;
 use slotted_slots::Error;
 use std::alloc::Global;
 
-// The users of one class are users of another one from now on.
+// Makes the users of one class users of another one.
 fn move_users<D: Drop>(
     data: &mut ClassData<D>,
     alloc: Global,
@@ -37,8 +37,8 @@ fn move_users<D: Drop>(
     Ok(())
 }
 
-// The data of a class that died is merged into that of the class that it finds. Its users are users of that, and wait unless they see what they
-// saw.
+// Merges the data of a dead class into that of the class that `find` maps it to. The users of the dead class become
+// users of that class. They are made pending unless they see the data that they saw before.
 fn bury_one<L: Language, N: Analysis<L>>(
     store: &Store<L>,
     nodes: &mut Hashcons<L>,
@@ -65,7 +65,7 @@ fn bury_one<L: Language, N: Analysis<L>>(
     Ok(())
 }
 
-// The data and the users of each of these classes go to what the class finds.
+// Buries each of these classes: its data and its users go to the class that `find` maps it to.
 pub(crate) fn bury<L: Language, N: Analysis<L>>(
     store: &Store<L>,
     nodes: &mut Hashcons<L>,

@@ -1,4 +1,4 @@
-//! Data is carried along after a graph has come to rest, and values are merged into it.
+//! Carrying data along after a graph was rebuilt, and merging values into it.
 ghost use Rattle.std.specs.Prelude.{◌≡◌, ◌<◌, ◌↔◌, ℕ, length, IfErr, IsTrue, OnOk};
 ghost use Rattle.slotted_slots.specs.Error.{IsOutOfMemory};
 ghost use Rattle.slotted_model.specs.Rest.{AtRest};
@@ -22,7 +22,7 @@ use slotted_languages::Language;
 use slotted_slots::Error;
 use std::alloc::Global;
 
-// New classes have data. What the dead had goes to what they find, and values go upwards.
+// Enters new classes as users, buries dead ones, and lets values go upwards. Each class has data already.
 fn carry_up<L: Language, N: Analysis<L>>(
     store: &Store<L>,
     nodes: &mut Hashcons<L>,
@@ -50,7 +50,7 @@ fn carry_up<L: Language, N: Analysis<L>>(
     Ok(())
 }
 
-// Whether each class has data, and each death has been carried.
+// Returns whether each class has data, and each death has been carried.
 fn has_carried_all<L: Language, D: Drop>(store: &Store<L>, data: &ClassData<D>) -> bool
     ensures all { IsTrue result ↔ HasCarriedAll store.now «data».now }
     ensures just { ListsDead store.now.deaths (entries_of store.now) }
@@ -59,11 +59,13 @@ fn has_carried_all<L: Language, D: Drop>(store: &Store<L>, data: &ClassData<D>) 
     data.count() == store.class_count() && data.carried() == deaths
 }
 
-/// Brings the data of all classes to rest again, after the graph has come to rest.
+/// Carries data along after the graph was rebuilt, until no data is pending.
 ///
-/// A graph was at rest with the data before, and the one that is there goes on from it, whatever was done between the two. New classes get
-/// what their nodes make. What a class had that died is merged into the data of the class that it finds. From there values go upwards. As
-/// long as all data has height 0, no death and no user is looked at.
+/// New classes get what their e-nodes make. The data of a class that died is merged into that of the class that `find`
+/// maps it to. From there values go upwards.
+///
+/// The data may be that of an older state of the graph, if no data was pending then. While all data has height 0, no
+/// death and no user is read.
 pub fn carry<L: Language, N: Analysis<L>>(
     store: &Store<L>,
     nodes: &mut Hashcons<L>,
@@ -78,7 +80,7 @@ pub fn carry<L: Language, N: Analysis<L>>(
     ensures carried { OnOk result ((k : Kept) (r : Rows)
         → RestedBefore (by_bare_nodes (N.meaning analysis.now)) k r store.now nodes.old «data».old
         → Carried (by_bare_nodes (N.meaning analysis.now)) k r store.now nodes.old «data».old «data».new) }
-    // Where each class has data, and each death has been carried, nothing changes.
+    // If each class has data, and each death has been carried, nothing changes.
     ensures still { OnOk result (HasCarriedAll store.now «data».old → «data».new ≡ «data».old) }
     ensures err { IfErr result IsOutOfMemory }
 {
@@ -93,7 +95,8 @@ pub fn carry<L: Language, N: Analysis<L>>(
     Ok(())
 }
 
-/// Merges a value into the data of the class that a class finds, from where it goes upwards. Data of height 0 absorbs everything.
+/// Merges a value into the data of the class that `find` maps a class to. From there values go upwards. Data of height
+/// 0 absorbs every value.
 pub fn merge_value<L: Language, N: Analysis<L>>(
     store: &Store<L>,
     nodes: &mut Hashcons<L>,

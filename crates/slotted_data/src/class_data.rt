@@ -1,4 +1,4 @@
-//! The data of classes, and what has to be known to carry it along.
+//! The data of classes, and what is kept to carry it along.
 ghost use Rattle.std.specs.Prelude.{◌≡◌, ◌<◌, ◌≤◌, ◌^◌, ◌++◌, ◌∷◌, [], length, set, slice_get, slice_index_or, Some};
 ghost use Rattle.std.specs.Prelude.{IfErr, IfOk, OnOk};
 ghost use Rattle.slotted_slots.specs.Error.{IsOutOfMemory};
@@ -14,10 +14,13 @@ use std::alloc::Global;
 use std::marker::Model;
 use std::mem;
 
-/// For each class its data, and the sources of nodes with a child that finds the class. Beside them stand what has to be known to carry data
-/// along: how many classes are among the users of their children's classes, and how many deaths have been carried. A flag tells whether some
-/// class had data of a height above 0 when it was made. Some classes wait to be modified. Turns that are taken for data are counted. After want
-/// of memory nothing is known of all this.
+/// For each class its data, and its users: the sources of e-nodes with a child that `find` maps to the class.
+///
+/// With these stand the number of classes that are entered as users, the number of deaths that have been carried, and
+/// the classes that wait to be modified. A flag tells whether some class had data of a height above 0 when it was made.
+/// The turns that are taken for data are counted.
+///
+/// After memory was refused, nothing is known of all this.
 #[derive(Drop)]
 pub struct ClassData<D> {
     values: Vec<D>,
@@ -30,7 +33,7 @@ pub struct ClassData<D> {
     count: RebuildCount,
     total_turns: u64,
     total_bound: u128,
-    // The totals over all other rebuilds, as they were at these turns.
+    // The totals over all other rebuilds when these turns were taken.
     rebuilt: (u64, u128),
 }
 
@@ -62,7 +65,7 @@ impl<D> Model for ClassData<D> {
 }
 
 impl<D: Drop> ClassData<D> {
-    /// Returns the data of no class.
+    /// Returns the data of a graph without classes.
     pub fn new(alloc: Global) -> Self
         ensures { result ≡ no_values }
     {
@@ -101,7 +104,7 @@ impl<D: Drop> ClassData<D> {
         &self.values[class]
     }
 
-    /// Returns how many classes wait to be modified, dead ones too.
+    /// Returns how many classes wait to be modified, dead ones included.
     pub fn changed_count(&self) -> usize
         ensures { result ≡ length self.now.changed }
     {
@@ -115,7 +118,7 @@ impl<D: Drop> ClassData<D> {
         self.changed.get(k)
     }
 
-    /// Returns the classes that wait to be modified, in the order in which they came. None waits from now on.
+    /// Removes and returns the classes that wait to be modified, in the order in which they came.
     pub fn take_changed(&mut self, alloc: Global) -> Result<Vec<usize>, Error>
         ensures ok { IfOk result (λ v. v.items ≡ self.old.changed) }
         ensures left { OnOk result (self.new ≡ with_none_changed self.old) }
@@ -131,23 +134,24 @@ impl<D: Drop> ClassData<D> {
         self.count
     }
 
-    /// Returns how many turns for data were taken in all, and how many their bounds allow. A sum that would be too large ends at the largest number.
+    /// Returns how many turns for data were taken in all, and how many their bounds allow. A sum that would be too
+    /// large stays at the largest number.
     pub fn turn_totals(&self) -> (u64, u128)
         ensures { result ≡ (self.now.counts.own.total_turns, self.now.counts.own.total_bound) }
     {
         (self.total_turns, self.total_bound)
     }
 
-    /// Returns the totals over all other rebuilds, as they were at the last turns for data.
+    /// Returns the totals over all other rebuilds when the last turns for data were taken.
     pub fn rebuilt(&self) -> (u64, u128)
         ensures { result ≡ self.now.counts.rebuilt }
     {
         self.rebuilt
     }
 
-    // Single writes, each said exactly.
+    // Single writes, each with an exact clause.
 
-    // Turns were taken for data, if any were, with so many nodes filed. Other rebuilds had these totals.
+    // Notes turns for data, if any were taken, with the number of filed e-nodes and the totals of other rebuilds.
     pub(crate) fn note_turns(&mut self, nodes: usize, taken: Taken, totals: (u64, u128))
         ensures { self.new ≡ with_turns self.old nodes taken.fall taken.turns totals }
     {
@@ -167,7 +171,7 @@ impl<D: Drop> ClassData<D> {
         self.rebuilt = totals;
     }
 
-    // The next class has this data. No node is over it yet, and it waits to be modified.
+    // Adds the data of the next class. No e-node is over the class yet, and the class waits to be modified.
     pub(crate) fn add(&mut self, alloc: Global, value: D, is_tall: bool) -> Result<(), Error>
         ensures ok { OnOk result (HasNewValue self.old self.new value is_tall) }
         ensures err { IfErr result IsOutOfMemory }
@@ -181,7 +185,7 @@ impl<D: Drop> ClassData<D> {
         Ok(())
     }
 
-    // A class has other data, and waits to be modified.
+    // Sets the data of a class, which waits to be modified from then on.
     pub(crate) fn set(&mut self, class: usize, value: D) -> Result<(), Error>
         requires { class < length self.old.values }
         ensures ok { OnOk result (HasValue self.old self.new class value) }
@@ -192,7 +196,7 @@ impl<D: Drop> ClassData<D> {
         Ok(())
     }
 
-    // A source stands over a class.
+    // Adds a source to the users of a class.
     pub(crate) fn add_user(&mut self, class: usize, source: u32) -> Result<(), Error>
         requires { class < length self.old.values }
         ensures ok { OnOk result (self.new ≡ with_user self.old class source) }
@@ -203,7 +207,7 @@ impl<D: Drop> ClassData<D> {
         Ok(())
     }
 
-    // The sources over a class, which has none from now on.
+    // Removes and returns the users of a class.
     pub(crate) fn take_users(&mut self, alloc: Global, class: usize) -> Vec<u32>
         requires { class < length self.old.values }
         ensures taken { result.items ≡ users_of self.old class }
@@ -212,7 +216,7 @@ impl<D: Drop> ClassData<D> {
         mem::replace(&mut self.users[class], Vec::new(alloc))
     }
 
-    // The sources over a class.
+    // Returns the users of a class.
     pub(crate) fn users(&self, class: usize) -> &[u32]
         requires { class < length self.now.values }
         ensures { result.now ≡ users_of self.now class }
@@ -220,35 +224,35 @@ impl<D: Drop> ClassData<D> {
         &self.users[class]
     }
 
-    // How many classes are among the users of their children's classes.
+    // Returns how many classes are entered as users of their children's classes.
     pub(crate) fn entered(&self) -> usize
         ensures { result ≡ self.now.entered }
     {
         self.entered
     }
 
-    // So many classes are.
+    // Sets how many classes are entered as users of their children's classes.
     pub(crate) fn set_entered(&mut self, entered: usize)
         ensures { self.new ≡ with_entered self.old entered }
     {
         self.entered = entered;
     }
 
-    // How many deaths have been carried.
+    // Returns how many deaths have been carried.
     pub(crate) fn carried(&self) -> usize
         ensures { result ≡ self.now.carried }
     {
         self.carried
     }
 
-    // So many deaths have been.
+    // Sets how many deaths have been carried.
     pub(crate) fn set_carried(&mut self, carried: usize)
         ensures { self.new ≡ with_carried self.old carried }
     {
         self.carried = carried;
     }
 
-    // Whether some class had data of a height above 0 when it was made.
+    // Returns whether some class had data of a height above 0 when it was made.
     pub(crate) fn is_tall(&self) -> bool
         ensures { result ≡ self.now.tall }
     {
@@ -256,7 +260,7 @@ impl<D: Drop> ClassData<D> {
     }
 }
 
-// Those that wait, in the order in which they came. None waits from now on.
+// Removes and returns the classes of a list, in the order in which they came.
 fn drain(alloc: Global, waiting: &mut Worklist) -> Result<Vec<usize>, Error>
     ensures ok { IfOk result (λ v. v.items ≡ waiting.old.queue) }
     ensures left { OnOk result (waiting.new.queue ≡ []) }

@@ -1,4 +1,4 @@
-//! What is told of the last rebuild, and of all so far.
+//! The counts of the last rebuild, and of all rebuilds so far.
 ghost use Rattle.std.specs.Prelude.{◌≡◌, ◌≤◌, ◌<◌, ◌+◌, ◌^◌, ◌*◌, ℕ, length, slice_get, cond, Some, false};
 ghost use Rattle.slotted_model.specs.Rest.{entry_size};
 ghost use Rattle.slotted_classes.specs.Kept.{find_at, size_of};
@@ -13,7 +13,7 @@ use slotted_analyses::Analysis;
 use slotted_classes::{RebuildCount, Store};
 use slotted_languages::Language;
 
-// What a live class counts for: itself, each of its slots, and the height of its data. A dead one counts for nothing.
+// Returns the size of a class: 1, the number of its slots, and the height of its data. The size of a dead class is 0.
 fn class_size<L: Language, N: Analysis<L>>(
     store: &Store<L>,
     data: &ClassData<N::Data>,
@@ -33,7 +33,8 @@ fn class_size<L: Language, N: Analysis<L>>(
     entry.m.len() as u128 + 1 + analysis.height(data.value(class)) as u128
 }
 
-/// Returns the size of a graph: how many live classes there are, slots of them, and heights of their data. Takes no memory.
+/// Returns the size of a graph: the number of its live classes and of their slots, and the heights of their data. Takes
+/// no memory.
 pub fn size_with_heights<L: Language, N: Analysis<L>>(
     store: &Store<L>,
     data: &ClassData<N::Data>,
@@ -50,7 +51,7 @@ pub fn size_with_heights<L: Language, N: Analysis<L>>(
     size
 }
 
-// Whether turns for data were taken, and no other rebuild came after them.
+// Returns whether turns for data were taken, and no other rebuild came after them.
 fn data_came_last<L: Language, D: Drop>(store: &Store<L>, data: &ClassData<D>) -> bool
     ensures { result ≡ came_last store.now.counts «data».now.counts }
 {
@@ -59,7 +60,7 @@ fn data_came_last<L: Language, D: Drop>(store: &Store<L>, data: &ClassData<D>) -
     data.last_turns().turns > 0 && turns == later_turns && bound == later_bound
 }
 
-// The last rebuild, which is that of data if it came after all others.
+// Returns the counts of the last rebuild. This is the one of data if no other rebuild came after it.
 fn last_count_of<L: Language, D: Drop>(store: &Store<L>, data: &ClassData<D>) -> RebuildCount
     ensures last { result ≡ last_count (last_of store.now.counts «data».now.counts) }
     ensures fits { result.turns < 2 ^ 64 }
@@ -71,8 +72,10 @@ fn last_count_of<L: Language, D: Drop>(store: &Store<L>, data: &ClassData<D>) ->
     }
 }
 
-/// Returns what the last rebuild did, which is that of data if it came after all others. Both sizes have the heights of the data that is there. The
-/// size that was found is larger than what is left by as much as the rebuild lowered it. Takes no memory.
+/// Returns what the last rebuild did. This is the one of data if no other rebuild came after it.
+///
+/// Both sizes have the heights of the data as they are now. The size that was found is larger than the one that was
+/// left by as much as the rebuild lowered it. Takes no memory.
 pub fn last_rebuild<L: Language, N: Analysis<L>>(
     store: &Store<L>,
     data: &ClassData<N::Data>,
@@ -98,8 +101,8 @@ pub fn last_rebuild<L: Language, N: Analysis<L>>(
     }
 }
 
-/// Returns how many turns all rebuilds took, those of data too, and how many their bounds allow. A sum that would be too large ends at the largest
-/// number. Takes no memory.
+/// Returns how many turns all rebuilds took, those of data included, and how many their bounds allow. A sum that would
+/// be too large stays at the largest number. Takes no memory.
 pub fn rebuild_totals<L: Language, D: Drop>(store: &Store<L>, data: &ClassData<D>) -> (u64, u128)
     ensures totals { result ≡ totals_with store.now.counts «data».now.counts }
     ensures still { «data».now.counts ≡ no_turns → result ≡ (store.now.counts.total_turns, store.now.counts.total_bound) }

@@ -1,7 +1,7 @@
-//! The data of classes, and how it is carried along after a graph has come to rest.
+//! The data of classes, and how it is carried along after a graph was rebuilt.
 //!
-//! [`carry`] gives data to new classes, merges what the dead had into what they find, and lets values go upwards until nothing changes.
-//! [`merge_value`] does so for a value that a caller has.
+//! [`carry`] gives data to new classes, and merges the data of dead ones into that of the classes that `find` maps them
+//! to. Then values go upwards until nothing changes. [`merge_value`] does so for a value of the caller.
 #![tactic(auto)]
 
 pub(crate) mod burying;

@@ -21,7 +21,8 @@ use slotted_languages::Language;
 use slotted_slots::Error;
 use std::alloc::Global;
 
-// A class has this data. If it had other data, its users wait, and it waits to be modified.
+// Sets the data of a class. If the data changes by this, the users of the class are made pending, and the class waits
+// to be modified.
 pub(crate) fn put_value<L: Language, N: Analysis<L>>(
     nodes: &mut Hashcons<L>,
     data: &mut ClassData<N::Data>,
@@ -40,7 +41,7 @@ pub(crate) fn put_value<L: Language, N: Analysis<L>>(
     Ok(())
 }
 
-// A value is merged into the data of a class.
+// Merges a value into the data of a class.
 pub(crate) fn lower<L: Language, N: Analysis<L>>(
     nodes: &mut Hashcons<L>,
     data: &mut ClassData<N::Data>,
@@ -58,7 +59,7 @@ pub(crate) fn lower<L: Language, N: Analysis<L>>(
     Ok(())
 }
 
-// What the filed node of a class makes, if it has one.
+// Returns what the filed e-node of a class makes, if the class has one.
 fn value_made<L: Language, N: Analysis<L>>(
     store: &Store<L>,
     nodes: &Hashcons<L>,
@@ -82,8 +83,8 @@ fn value_made<L: Language, N: Analysis<L>>(
     Ok(Some(value))
 }
 
-// What the filed node of a class makes is merged into the data of what the class finds. Data of height 0 absorbs everything. The answer is by
-// how much the height of that data fell.
+// Merges what the filed e-node of a class makes into the data of the class that `find` maps it to. Returns by how much
+// the height of that data fell. Data of height 0 absorbs every value.
 fn take_data<L: Language, N: Analysis<L>>(
     store: &Store<L>,
     nodes: &mut Hashcons<L>,
@@ -115,7 +116,7 @@ fn take_data<L: Language, N: Analysis<L>>(
     Ok(before - after)
 }
 
-// Each class that waits takes what its filed node makes, until none waits.
+// Lets each pending class take what its filed e-node makes, until none is pending.
 fn take_turns<L: Language, N: Analysis<L>>(
     store: &Store<L>,
     nodes: &mut Hashcons<L>,
@@ -144,7 +145,7 @@ fn take_turns<L: Language, N: Analysis<L>>(
     Ok(Taken { turns, fall })
 }
 
-// Each class that waits takes what its filed node makes, until none waits. The turns are noted.
+// Lets each pending class take what its filed e-node makes, until none is pending, and notes the turns.
 pub(crate) fn rise<L: Language, N: Analysis<L>>(
     store: &Store<L>,
     nodes: &mut Hashcons<L>,

@@ -1,4 +1,4 @@
-//! What nodes make of the data of their children, and the data of new classes.
+//! What e-nodes make of the data of their children, and the data of new classes.
 ghost use Rattle.std.specs.Prelude.{◌≡◌, ◌≤◌, ◌<◌, ℕ, Contains, length, IfOk, IfErr, OnOk};
 ghost use Rattle.slotted_slots.specs.Error.{IsOutOfMemory};
 ghost use Rattle.slotted_model.specs.Classes.{Canonical};
@@ -15,7 +15,8 @@ use slotted_languages::Language;
 use slotted_slots::Error;
 use std::alloc::Global;
 
-// The class whose data stands for a class: what this finds, if that has data, else the class itself. It takes no memory.
+// Returns the class whose data is read for a class: the one that `find` maps it to if this has data, else the class
+// itself. Takes no memory.
 fn class_with_data<L: Language>(store: &Store<L>, count: usize, class: usize) -> usize
     requires good { HasFinds store.now }
     requires within { class < length store.now.classes }
@@ -26,8 +27,8 @@ fn class_with_data<L: Language>(store: &Store<L>, count: usize, class: usize) ->
     if found < count { found } else { class }
 }
 
-// Copies of the data of the classes that the children of a node find, from the left. A class that was made later may have no data yet. Then
-// the data of the child's own class is read.
+// Returns copies of the data of the classes that `find` maps the children of an e-node to, from the left. If such a
+// class has no data yet, being made later, the data of the child's own class is read.
 pub(crate) fn child_data<L: Language, N: Analysis<L>>(
     store: &Store<L>,
     data: &ClassData<N::Data>,
@@ -50,7 +51,7 @@ pub(crate) fn child_data<L: Language, N: Analysis<L>>(
     Ok(each)
 }
 
-// The next class gets what its node makes.
+// Gives the next class what its e-node makes.
 fn add_next<L: Language, N: Analysis<L>>(
     store: &Store<L>,
     data: &mut ClassData<N::Data>,
@@ -71,7 +72,7 @@ fn add_next<L: Language, N: Analysis<L>>(
     Ok(())
 }
 
-// Each class that has no data gets what its node makes, from the oldest one to the newest.
+// Gives each class without data what its e-node makes, from the oldest one to the newest.
 pub(crate) fn add_new<L: Language, N: Analysis<L>>(
     store: &Store<L>,
     data: &mut ClassData<N::Data>,

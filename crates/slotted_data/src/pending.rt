@@ -1,4 +1,4 @@
-//! The classes that wait to be modified, as far as they live.
+//! The live classes that wait to be modified.
 ghost use Rattle.std.specs.Prelude.{◌≡◌, count_by, IfOk, IfErr, OnOk};
 ghost use Rattle.slotted_slots.specs.Error.{IsOutOfMemory};
 ghost use Rattle.slotted_data.specs.Held.{with_none_changed};
@@ -10,14 +10,14 @@ use slotted_languages::Language;
 use slotted_slots::Error;
 use std::alloc::Global;
 
-// Whether a number is that of a class that leads to itself.
+// Returns whether a number is that of a live class.
 fn is_live<L: Language>(store: &Store<L>, class: usize) -> bool
     ensures { result ≡ lives_in store.now class }
 {
     class < store.class_count() && store.entry(class).id.0 == class
 }
 
-/// Returns how many live classes wait to be modified. It takes no memory.
+/// Returns how many live classes wait to be modified. Takes no memory.
 pub fn pending_count<L: Language, D: Drop>(store: &Store<L>, data: &ClassData<D>) -> usize
     ensures { result ≡ count_by (lives_in store.now) «data».now.changed }
 {
@@ -32,7 +32,7 @@ pub fn pending_count<L: Language, D: Drop>(store: &Store<L>, data: &ClassData<D>
     count
 }
 
-/// Returns the live classes that wait to be modified, by ascending id. No class waits from now on.
+/// Removes and returns the classes that wait to be modified, by ascending id. Dead ones are left out.
 pub fn take_pending<L: Language, D: Drop>(
     store: &Store<L>,
     data: &mut ClassData<D>,

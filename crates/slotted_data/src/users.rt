@@ -1,4 +1,4 @@
-//! Who stands over a class, and that these wait.
+//! The users of classes, and how they are made pending.
 ghost use Rattle.std.specs.Prelude.{◌≡◌, ◌≤◌, ◌<◌, ◌∷◌, [], length, IfErr, OnOk};
 ghost use Rattle.slotted_slots.specs.Error.{IsOutOfMemory};
 ghost use Rattle.slotted_model.specs.Classes.{Canonical};
@@ -12,7 +12,7 @@ use slotted_hashcons::Hashcons;
 use slotted_languages::Language;
 use slotted_slots::Error;
 
-// A source waits from now on, if a node is filed of it.
+// Makes a source pending, if an e-node is filed of it.
 fn wait_if_filed<L: Language>(nodes: &mut Hashcons<L>, source: usize) -> Result<(), Error>
     ensures ok { OnOk result (WaitEach nodes.old nodes.new (source ∷ [])) }
     ensures err { IfErr result IsOutOfMemory }
@@ -24,7 +24,7 @@ fn wait_if_filed<L: Language>(nodes: &mut Hashcons<L>, source: usize) -> Result<
     Ok(())
 }
 
-// Each of these sources waits from now on, if a node is filed of it.
+// Makes each of these sources pending, if an e-node is filed of it.
 pub(crate) fn wait_each<L: Language>(nodes: &mut Hashcons<L>, sources: &[u32]) -> Result<(), Error>
     ensures ok { OnOk result (WaitEach nodes.old nodes.new sources.now) }
     ensures err { IfErr result IsOutOfMemory }
@@ -35,8 +35,8 @@ pub(crate) fn wait_each<L: Language>(nodes: &mut Hashcons<L>, sources: &[u32]) -
     Ok(())
 }
 
-// A class is among the users of what its children find. It waits if one of these is not older, since that may have had no data when the class
-// was made.
+// Enters a class as a user of the classes that `find` maps its children to. The class is made pending if one of these
+// is not older, since that one may have had no data when the class was made.
 fn enter_class<L: Language, D: Drop>(
     store: &Store<L>,
     nodes: &mut Hashcons<L>,
@@ -64,7 +64,7 @@ fn enter_class<L: Language, D: Drop>(
     Ok(())
 }
 
-// All classes are among the users of what their children find.
+// Enters all classes as users of the classes that `find` maps their children to.
 pub(crate) fn enter_users<L: Language, D: Drop>(
     store: &Store<L>,
     nodes: &mut Hashcons<L>,

@@ -1,4 +1,5 @@
-//! The program `slotted_dot`: lines of the program `slotted` in, and out a picture of the graph that they leave, in the DOT language.
+//! The program `slotted_dot`: lines of the program `slotted` in, and a picture of the graph that they leave out. The
+//! picture is in the DOT language.
 #![tactic(auto)]
 
 ghost use Rattle.slotted_lines.specs.States.{AreSearchable, state_of};
@@ -13,7 +14,7 @@ use std::io::{BufRead, BufReader, BufWriter, ErrorKind, Write};
 use std::process::ExitCode;
 use std::{io, mem};
 
-// Answers each line over a session. The answers are written nowhere.
+// Answers each line over a session, and writes no answer.
 fn read_lines<L: Printable, R: BufRead>(
     alloc: Global,
     session: &mut Session<L>,
@@ -33,14 +34,14 @@ fn read_lines<L: Printable, R: BufRead>(
     Err(io::Error::from(ErrorKind::FileTooLarge))
 }
 
-// The picture of a graph, or the name of the refusal.
+// Returns the picture of a graph, or the name of the error.
 fn picture<L: Printable>(alloc: Global, session: &mut Session<L>) -> Result<String, Error> {
     let mut text = String::new(alloc);
     graph_to_dot(alloc, &mut session.graph, &mut text)?;
     Ok(text)
 }
 
-// Writes the picture of the graph that the lines leave, or a line with the name of the refusal.
+// Writes the picture of the graph that the lines leave, or a line with the name of the error.
 fn draw_session<L: Printable, R: BufRead, W: Write>(
     alloc: Global,
     session: &mut Session<L>,
@@ -57,7 +58,8 @@ fn draw_session<L: Printable, R: BufRead, W: Write>(
     output.flush()
 }
 
-/// Draws the graph that the lines of `input` leave. A graph that has failed is a line with the name of the refusal.
+/// Draws the graph that the lines of `input` leave. For a graph that has failed, a line with the name of the error is
+/// written.
 ///
 /// The session is not taken apart, and its memory goes with the process.
 pub fn draw_lines<L: Printable, R: BufRead, W: Write>(

@@ -1,4 +1,4 @@
-//! An entry of a graph's proof list as the explanation of its equation.
+//! The explanation of an equation: an entry of a graph's proof list.
 ghost use Rattle.std.specs.Prelude.{◌≡◌, ◌⊎◌, ◌↔◌, ◌<◌, ℕ, length, string_bytes, IsTrue, IfOk, IfErr, IsErrOf};
 ghost use Rattle.slotted_slots.specs.Error.{IsShortage};
 ghost use Rattle.slotted_proofs.specs.Entries.{proven_at, statement_at, step_of, text_of};
@@ -18,23 +18,24 @@ use slotted_slots::Error;
 use slotted_terms::expr::printing::Printable;
 use std::alloc::Global;
 
-/// What an entry of a graph's proof list says, and why. Each call needs `EGraph::is_valid_proof` of the entry.
+/// An entry of a graph's proof list: the equation that it proves, and how. `EGraph::is_valid_proof` has to hold of the
+/// entry in each call.
 pub trait Explanation {
-    // Its number in the list.
+    // The number of the entry in the list.
     ghost number: { Self → ℕ };
 
-    /// The equation, with numbered names.
+    /// Returns the equation, with numbered names.
     fn equ<L: Language, N: Analysis<L>>(self, graph: &EGraph<L, N>) -> &Equation
         requires { number self < length graph.now.image.entries }
         ensures { IsWritten (statement_at graph.now.image.stored (number self)) result.now };
 
-    /// The step by which it was proved.
+    /// Returns the step by which the equation was proved.
     fn proof<L: Language, N: Analysis<L>>(self, graph: &EGraph<L, N>) -> &Proof
         requires { number self < length graph.now.image.entries }
         ensures step { step_of result.now ≡ (proven_at graph.now.image.stored (number self)).step }
         ensures text { text_of result.now ≡ (proven_at graph.now.image.stored (number self)).text };
 
-    /// A copy of the entry.
+    /// Returns a copy of the entry.
     fn entry<L: Language, N: Analysis<L>>(
         self,
         alloc: Global,
@@ -47,10 +48,11 @@ pub trait Explanation {
         ensures failed { IsErrOf result Error.Failed ↔ IsTrue graph.now.failed }
         ensures only { IfErr result (λ e. (e ≡ Error.Failed) ⊎ (e ≡ Error.OutOfMemory)) };
 
-    /// The proof: a line for each entry that it stands on, each once, parts first, numbered from 0.
+    /// Returns the proof as lines: one for each entry that the proof uses, each once, parts first, numbered from 0.
     ///
-    /// A line is `i: l = r by X`, ended by a line feed: the sides are canonical terms, and X is the debug form of the optional
-    /// text, `refl`, or `symmetry(a)`, `transitivity(a, b)` or `congruence(a, b)` with the numbers of the parts' lines.
+    /// A line is `i: l = r by X`, and ends with a line feed. The sides are canonical terms. X is the debug form of the
+    /// optional text, or a step: `refl`, `symmetry(a)`, `transitivity(a, b)` or `congruence(a, b)`. The numbers in a
+    /// step are those of the lines of its parts.
     fn to_string<L: Printable, N: Analysis<L>>(
         self,
         alloc: Global,
@@ -59,7 +61,8 @@ pub trait Explanation {
         requires { IsTrue graph.old.failed ⊎ (number self < length graph.old.image.entries) }
         ensures text { IfOk result (λ s. IsProofText L.written graph.old graph.new (number self) (string_bytes s)) }
 
-        // Only fresh slots are made, no more than the sides of the lines have binders, and a refusal does not fail the graph.
+        // Only fresh slots are made, no more than the sides of the lines have binders. An error does not fail the
+        // graph.
         ensures takes { OnlyTakesSlots graph.old graph.new }
         ensures stays { IsTrue graph.old.failed → graph.new ≡ graph.old }
         ensures count { MakesForProof graph.old graph.new (number self) }
@@ -68,12 +71,14 @@ pub trait Explanation {
         ensures full { IsErrOf result Error.OutOfSlots → ProofRunsOut graph.old graph.new (number self) }
         ensures only { IfErr result (λ e. (e ≡ Error.Failed) ⊎ IsShortage e) };
 
-    /// The proof as a chain of terms: the canonical term of the left side, then, for each assertion that the proof uses, in the
-    /// order of use, a line feed and the whole term after that step.
+    /// Returns the proof as a chain of terms. The canonical term of the left side comes first. For each assertion that
+    /// the proof uses, in the order of use, a line feed follows, and the whole term after that step.
     ///
-    /// In each of these the subterm that was put in stands as `(Rewrite=> J T)`, or as `(Rewrite<= J T)` where the assertion is
-    /// used from right to left. J is the text of the assertion, or `-` where it has none. The names are those of the left side's
-    /// term; a name that only the other side of an assertion has is its own, or a number, where the term has that name already.
+    /// In each of these terms the subterm that was put in is written `(Rewrite=> J T)`. If the assertion is used from
+    /// right to left, it is written `(Rewrite<= J T)`. J is the text of the assertion, or `-` if it has none.
+    ///
+    /// The names are those of the left side's term. A name that only the other side of an assertion has is kept. If the
+    /// term has that name already, a number is written for it.
     fn to_flat_string<L: Printable, N: Analysis<L>>(
         self,
         alloc: Global,
@@ -81,8 +86,8 @@ pub trait Explanation {
     ) -> Result<String, Error>
         requires { IsTrue graph.old.failed ⊎ (number self < length graph.old.image.entries) }
 
-        // Only fresh slots are made, no more than the terms have binders that are made for the chain, and a refusal does not fail
-        // the graph.
+        // Only fresh slots are made, no more than the terms of the chain have binders. An error does not fail the
+        // graph.
         ensures takes { OnlyTakesSlots graph.old graph.new }
         ensures stays { IsTrue graph.old.failed → graph.new ≡ graph.old }
         ensures count { MakesForChain graph.old graph.new (number self) }

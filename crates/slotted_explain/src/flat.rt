@@ -1,4 +1,4 @@
-//! A proof printed as a chain of whole terms.
+//! Printing a proof as a chain of whole terms.
 ghost use Rattle.std.specs.Prelude.{◌<◌, length, IfErr, IsErrOf};
 ghost use Rattle.slotted_slots.specs.Error.{IsOutOfMemory, IsShortage};
 ghost use Rattle.slotted_graph.specs.Graph.{OnlyTakesSlots};
@@ -18,7 +18,7 @@ use slotted_terms::expr::printing::Printable;
 use std::alloc::Global;
 use std::fmt::Write;
 
-// The left side, and a line for each step. Each entry has a canonical term.
+// Returns the text of the left side, and a line for each step. Each entry has a canonical term.
 pub(crate) fn chain_text<L: Printable, N: Analysis<L>>(
     alloc: Global,
     graph: &mut EGraph<L, N>,
@@ -39,7 +39,7 @@ pub(crate) fn chain_text<L: Printable, N: Analysis<L>>(
     }
 }
 
-// The term, and a line for each step that begins with it.
+// Returns the text of the term, and a line for each step that begins with it.
 fn steps_text<L: Printable, N: Analysis<L>>(
     alloc: Global,
     graph: &mut EGraph<L, N>,
@@ -59,7 +59,7 @@ fn steps_text<L: Printable, N: Analysis<L>>(
     Ok(text)
 }
 
-// Takes a step where the term has its place, and appends its line.
+// Takes a step at its place of the term, and appends its line.
 fn take_step<L: Printable, N: Analysis<L>>(
     alloc: Global,
     graph: &mut EGraph<L, N>,
@@ -97,7 +97,7 @@ fn push_line<L: Printable, N: Analysis<L>>(
     Ok(())
 }
 
-// What a step puts in, with the names of the term in which it stands.
+// Returns the subterm that a step puts in, with the names of the term in which it stands.
 fn subterm_after<L: Printable, N: Analysis<L>>(
     alloc: Global,
     graph: &mut EGraph<L, N>,
@@ -121,7 +121,8 @@ fn subterm_after<L: Printable, N: Analysis<L>>(
     renamed_term(alloc, graph, &to, &names)
 }
 
-// The names that the slots of what a step begins with have in a term that is its canonical one but for names.
+// Returns the names that the slots of what a step begins with have in a term. The term is the canonical one up to
+// names.
 fn names_at<L: Printable, N: Analysis<L>>(
     alloc: Global,
     graph: &mut EGraph<L, N>,
@@ -146,7 +147,7 @@ fn names_at<L: Printable, N: Analysis<L>>(
     Ok(Some(names))
 }
 
-// Names for the slots of an id that do not stand in its canonical term, if it is valid.
+// Returns names for the slots of an id that do not stand in its canonical term, if the id is valid.
 fn names_apart<L: Printable, N: Analysis<L>>(
     alloc: Global,
     graph: &mut EGraph<L, N>,
@@ -165,7 +166,7 @@ fn names_apart<L: Printable, N: Analysis<L>>(
     Ok(Some(names))
 }
 
-// The canonical term of an id whose slots are renamed, if that is valid.
+// Returns the canonical term of an id whose slots are renamed, if that id is valid.
 fn renamed_term<L: Printable, N: Analysis<L>>(
     alloc: Global,
     graph: &mut EGraph<L, N>,
@@ -185,7 +186,7 @@ fn renamed_term<L: Printable, N: Analysis<L>>(
     canonical_term(graph, &renamed)
 }
 
-// The canonical term of an id, if it is valid.
+// Returns the canonical term of an id, if the id is valid.
 fn canonical_term<L: Printable, N: Analysis<L>>(
     graph: &mut EGraph<L, N>,
     a: &AppliedId,

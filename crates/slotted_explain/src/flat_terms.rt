@@ -1,4 +1,4 @@
-//! Places of terms, and their names.
+//! Places in terms, and the names of terms.
 ghost use Rattle.std.specs.Prelude.{◌≤◌, ◌⊎◌, length, Contains, IfErr, IfNone, IfOk, IfSome};
 ghost use Rattle.slotted_slots.specs.Error.{IsOutOfMemory};
 ghost use Rattle.slotted_slots.specs.Table.{slot_limit};
@@ -11,7 +11,7 @@ use slotted_terms::expr::printing::Printable;
 use slotted_terms::flat::flatten;
 use std::alloc::Global;
 
-// The term at a path, if there is one.
+// Returns the subterm at a path, if there is one.
 pub(crate) fn subterm<'a, L: Language>(
     term: &'a RecExpr<L>,
     path: &[usize],
@@ -26,7 +26,7 @@ pub(crate) fn subterm<'a, L: Language>(
     Some(at)
 }
 
-// Puts another term at a path, if there is one there.
+// Puts another term in place of the subterm at a path, if there is one.
 pub(crate) fn replace_at<L: Language>(term: &mut RecExpr<L>, path: &[usize], new: RecExpr<L>) {
     let mut at = &mut *term;
     for k in path {
@@ -38,7 +38,7 @@ pub(crate) fn replace_at<L: Language>(term: &mut RecExpr<L>, path: &[usize], new
     *at = new;
 }
 
-// The terms along a path, each over the next. Ends where there is no child.
+// Returns the terms along a path, each over the next. The list ends if there is no child.
 fn along<'a, L: Language>(
     alloc: Global,
     term: &'a RecExpr<L>,
@@ -58,7 +58,7 @@ fn along<'a, L: Language>(
     Ok(terms)
 }
 
-// The text of a term in brackets after the mark.
+// Returns the text of a term in brackets after the mark.
 fn bracketed<L: Printable>(
     alloc: Global,
     term: &RecExpr<L>,
@@ -71,7 +71,8 @@ fn bracketed<L: Printable>(
     Ok(format!(in alloc; "({mark} {text})")?)
 }
 
-// The text of a term in which the subterm at a path stands in round brackets after the mark. Without such a subterm there is no mark.
+// Returns the text of a term in which the subterm at a path stands in round brackets after the mark. If there is no
+// such subterm, there is no mark.
 pub(crate) fn marked<L: Printable>(
     alloc: Global,
     term: &RecExpr<L>,
@@ -92,7 +93,7 @@ pub(crate) fn marked<L: Printable>(
     Ok(text)
 }
 
-// The text of a term with another text in place of that of one child.
+// Returns the text of a term with another text in place of that of one child.
 fn text_around<L: Printable>(
     alloc: Global,
     term: &RecExpr<L>,
@@ -114,7 +115,7 @@ fn text_around<L: Printable>(
     node_text(alloc, &elements, &children, table)
 }
 
-// The slots that stand in a term, node by node: two terms that differ in names alone have them in one order.
+// Returns the slots of a term, e-node by e-node. Two terms that are equal up to names have them in one order.
 fn slots_of<L: Language>(alloc: Global, term: &RecExpr<L>) -> Result<Vec<Slot>, Error>
     ensures err { IfErr result IsOutOfMemory }
 {
@@ -126,7 +127,7 @@ fn slots_of<L: Language>(alloc: Global, term: &RecExpr<L>) -> Result<Vec<Slot>, 
     Ok(slots)
 }
 
-// Appends the slots that a node writes itself.
+// Appends the own slots of an e-node.
 fn push_own<L: Language>(alloc: Global, node: &L, slots: &mut Vec<Slot>) -> Result<(), Error>
     ensures err { IfErr result IsOutOfMemory }
 {
@@ -139,7 +140,7 @@ fn push_own<L: Language>(alloc: Global, node: &L, slots: &mut Vec<Slot>) -> Resu
     Ok(())
 }
 
-// The names that take some slots to where those of a pattern stand in a term: each name that stands in the pattern becomes the slot
+// Returns the map that takes some slots to the names of a term. A slot that stands in the pattern is taken to the slot
 // at the same place of the term.
 pub(crate) fn names_in<L: Language>(
     alloc: Global,
@@ -155,7 +156,7 @@ pub(crate) fn names_in<L: Language>(
     names.compose_partial(alloc, &matched)
 }
 
-// Which slots of the one list stand where in the other.
+// Returns the map from the slots of one list to those of the other, place by place.
 fn matched_names(alloc: Global, slots: &[Slot], names: &[Slot]) -> Result<SlotMap, Error>
     ensures err { IfErr result IsOutOfMemory }
 {
@@ -168,7 +169,7 @@ fn matched_names(alloc: Global, slots: &[Slot], names: &[Slot]) -> Result<SlotMa
     Ok(matched)
 }
 
-// Names each slot of an id that has no name yet, apart from the slots of a term.
+// Names each slot of an id that has no name yet, by one that is not in a term.
 pub(crate) fn name_others<L: Language>(
     alloc: Global,
     a: &AppliedId,
@@ -200,8 +201,8 @@ fn name_apart(
     Ok(())
 }
 
-// The slot itself as its name, or a number, where the term uses it. Where the term uses all numbers, one that is the name of no
-// slot of the id will do, of which there are fewer.
+// Returns a name for a slot: the slot itself, or a number if the term uses the slot. If the term uses all numbers, the
+// name is one that no slot of the id has. There are fewer such slots than numbers.
 fn free_name(alloc: Global, slot: Slot, names: &SlotMap, used: &[Slot]) -> Result<Slot, Error>
     ensures free { IfOk result (λ s. ¬ Contains used.now s ⊎ (slot_limit ≤ length used.now)) }
     ensures err { IfErr result IsOutOfMemory }
@@ -213,7 +214,7 @@ fn free_name(alloc: Global, slot: Slot, names: &SlotMap, used: &[Slot]) -> Resul
     Ok(unused(slot, &given).unwrap_or(slot))
 }
 
-// The slot, or the first number that is not used, where it is used and there is one.
+// Returns the slot if it is not used, else the first number that is not used, if there is one.
 fn unused(slot: Slot, used: &[Slot]) -> Option<Slot>
     ensures some { IfSome result (λ s. ¬ Contains used.now s) }
     ensures none { IfNone result (slot_limit ≤ length used.now) }

@@ -1,4 +1,4 @@
-//! Proofs as texts. The graph, whose proofs they are, is handed on.
+//! Proofs as texts. The crate hands on `slotted_graph`, whose proofs are printed.
 #![tactic(auto)]
 
 mod explanation;

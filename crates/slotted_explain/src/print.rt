@@ -1,4 +1,4 @@
-//! A proof printed line by line.
+//! Printing a proof line by line.
 ghost use Rattle.std.specs.Prelude.{All, ◌<◌, length, string_bytes, IsTrue, IfOk, OnOk, IfErr, IsErrOf};
 ghost use Rattle.slotted_slots.specs.Error.{IsShortage};
 ghost use Rattle.slotted_graph.specs.Graph.{IsFullId, OnlyTakesSlots};
@@ -16,7 +16,7 @@ use slotted_terms::expr::printing::Printable;
 use std::alloc::Global;
 use std::fmt::Write;
 
-// The lines in turn.
+// Returns the lines in turn.
 pub(crate) fn lines_text<L: Printable, N: Analysis<L>>(
     alloc: Global,
     graph: &mut EGraph<L, N>,
@@ -63,7 +63,7 @@ fn push_line<L: Printable, N: Analysis<L>>(
     Ok(())
 }
 
-// The two sides of an entry, printed.
+// Returns the texts of the two sides of an entry.
 fn sides_text<L: Printable, N: Analysis<L>>(
     alloc: Global,
     graph: &mut EGraph<L, N>,
@@ -84,7 +84,7 @@ fn sides_text<L: Printable, N: Analysis<L>>(
     Ok(text)
 }
 
-// The canonical term of an id, printed.
+// Returns the text of the canonical term of an id.
 fn side_text<L: Printable, N: Analysis<L>>(
     alloc: Global,
     graph: &mut EGraph<L, N>,

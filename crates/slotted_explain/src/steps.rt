@@ -10,8 +10,8 @@ use slotted_slots::{AppliedId, Error};
 use std::alloc::Global;
 use std::marker::Model;
 
-// An asserted equation that rewrites one place of a term, or an entry that stands for several of these. A turned one rewrites
-// from right to left. The path has the child to go down to at each node from the top.
+// An asserted equation that rewrites one place of a term, or an entry that stands for several such equations. A turned
+// one rewrites from right to left. The path lists the child to go down to at each e-node, from the top.
 #[derive(Drop)]
 pub(crate) struct FlatStep {
     pub(crate) entry: ProvenEq,
@@ -27,7 +27,7 @@ impl Model for FlatStep {
     ghost view = { λ s. record { entry = s.entry; turned = s.turned; path = s.path.items } };
 }
 
-// The assertions that a proof uses, in the order of use.
+// Returns the assertions that a proof uses, in the order of use.
 pub(crate) fn flat_steps(
     alloc: Global,
     proofs: &ProofList,
@@ -48,7 +48,7 @@ pub(crate) fn flat_steps(
     Ok(steps)
 }
 
-// Puts the parts of an entry onto the stack, the first one on top, or an assertion to the steps.
+// Puts the parts of an entry onto the stack, the first one on top. An assertion is appended to the steps instead.
 fn take_apart(
     alloc: Global,
     proofs: &ProofList,
@@ -127,7 +127,7 @@ fn push_child(
     push_part(alloc, stack, entry, step.turned, &path)
 }
 
-// What a step begins with.
+// Returns the side that a step begins with.
 pub(crate) fn from_side(
     alloc: Global,
     proofs: &ProofList,
@@ -146,7 +146,7 @@ pub(crate) fn from_side(
     side.copy(alloc)
 }
 
-// What a step puts in.
+// Returns the side that a step puts in.
 pub(crate) fn to_side(
     alloc: Global,
     proofs: &ProofList,
@@ -165,7 +165,7 @@ pub(crate) fn to_side(
     side.copy(alloc)
 }
 
-// `Rewrite=>` or `Rewrite<=`, and the text of the assertion.
+// Returns `Rewrite=>` or `Rewrite<=`, and the text of the assertion.
 pub(crate) fn mark_text(alloc: Global, proofs: &ProofList, step: &FlatStep) -> Result<String, Error>
     requires { step.now.entry < length proofs.now }
     ensures err { IfErr result IsOutOfMemory }
@@ -178,7 +178,7 @@ pub(crate) fn mark_text(alloc: Global, proofs: &ProofList, step: &FlatStep) -> R
     Ok(format!(in alloc; "Rewrite{arrow} {reason}")?)
 }
 
-// The text, or `-` where there is none.
+// Returns the text, or `-` if there is none.
 fn given_text(text: &Option<String>) -> &str {
     match text {
         Some(text) => text.as_str(),

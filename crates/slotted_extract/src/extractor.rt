@@ -64,8 +64,8 @@ impl<L: Language, CF: CostFunction<L>> Extractor<L, CF> {
 
     /// Returns a term of least cost among those that the id represents. Redundant slots and binders get fresh slots.
     ///
-    /// The error is `UnknownClass` if the class that the id finds was made after the extractor. If the graph has
-    /// changed since, the answer may be any term.
+    /// The error is `UnknownClass` if the class that `find` maps the id to was made after the extractor. If the graph
+    /// has changed since, the answer may be any term.
     pub fn extract<N: Analysis<L>>(
         &self,
         i: &AppliedId,
@@ -98,8 +98,9 @@ impl<L: Language, CF: CostFunction<L>> Extractor<L, CF> {
         eg.least_term(&self.terms, i)
     }
 
-    /// Returns the least cost of the id's own class, whatever the id finds. If the class may be dead, hand in what
-    /// `find_applied_id` returns. The error is `UnknownClass` if the class had no cost when the extractor was made.
+    /// Returns the least cost of the id's own class, whatever `find` maps the id to. If the class may be dead, hand in
+    /// what `find_applied_id` returns. The error is `UnknownClass` if the class had no cost when the extractor was
+    /// made.
     pub fn get_best_cost(&self, i: &AppliedId) -> Result<CF::Cost, Error>
         ensures cost { IfOk result
             (λ c. option_map (λ e. e.cost) (entry_at self.now.terms.entries.items i.now.id.0) ≡ Some c) }

@@ -1,4 +1,4 @@
-//! A term, and what the rules of arithmetic and the folding of constants make of it.
+//! Folding a term: by the rules of arithmetic, and by the analysis of constants.
 ghost use Rattle.std.specs.Prelude.{IfOk};
 ghost use Rattle.std.specs.Ordering.{nat_cmp};
 ghost use Rattle.slotted_terms.specs.Valid.{IsValidTerm};
@@ -20,29 +20,29 @@ use slotted_terms::RecExpr;
 use std::alloc::Global;
 use std::convert::Infallible;
 
-/// The runner of a term. Its graph keeps what numbers classes come to, and makes them equal.
+/// The runner of a term. Its graph keeps which numbers classes are known to be, and makes the classes equal to them.
 pub type Folder<K> = Runner<Small, ConstFold, (), Infallible, NoHook, K>;
 
-/// What a term folds to.
+/// The result of folding a term.
 #[derive(Drop)]
 pub struct Folded {
-    /// A smallest term that equals it.
+    /// A smallest term that equals the folded one.
     pub term: String,
-    /// How many e-classes the graph has.
+    /// The number of e-classes of the graph.
     pub classes: usize,
-    /// How many e-nodes these have.
+    /// The number of e-nodes of the graph.
     pub nodes: usize,
     /// Whether the last turn changed nothing.
     pub is_saturated: bool,
 }
 
-// The id of the term that a text writes.
+// Adds the term of a text. Returns its id.
 fn put<N: Analysis<Small>>(graph: &mut EGraph<Small, N>, text: &str) -> Result<AppliedId, Error> {
     let term = graph.parse_expr(text)?;
     graph.add_expr(&term)
 }
 
-// Runs rules, and returns whether the last turn changed nothing.
+// Runs rules. Returns whether the last turn changed nothing.
 fn run_rules<K: Clock>(folder: &mut Folder<K>, rules: &[Rule]) -> Result<bool, Error> {
     if !are_valid(&folder.egraph, rules) {
         return Err(Error::Failed);
@@ -51,13 +51,13 @@ fn run_rules<K: Clock>(folder: &mut Folder<K>, rules: &[Rule]) -> Result<bool, E
     Ok(matches!(report.stop_reason, StopReason::Saturated))
 }
 
-// Runs the rules of arithmetic.
+// Runs the rules of arithmetic. Returns whether the last turn changed nothing.
 fn saturate<K: Clock>(alloc: Global, folder: &mut Folder<K>) -> Result<bool, Error> {
     let rules = arithmetic(alloc, &mut folder.egraph)?;
     run_rules(folder, &rules)
 }
 
-// A smallest term that an id represents.
+// Returns a smallest term that an id represents.
 fn smallest<N: Analysis<Small>>(
     alloc: Global,
     graph: &mut EGraph<Small, N>,
@@ -72,7 +72,7 @@ fn smallest<N: Analysis<Small>>(
     ast_size_extract(alloc, id, graph)
 }
 
-// Its text.
+// Returns the text of a smallest term that an id represents.
 fn smallest_text<N: Analysis<Small>>(
     alloc: Global,
     graph: &mut EGraph<Small, N>,
@@ -97,7 +97,8 @@ fn fold_in<K: Clock>(alloc: Global, folder: &mut Folder<K>, text: &str) -> Resul
     })
 }
 
-/// Folds the term of a text in a graph of its own. The rules run until a turn changes nothing, or until more turns are stored than the limit.
+/// Folds the term of a text in a graph of its own. The rules run until a turn changes nothing, or until more turns are
+/// stored than the limit.
 pub fn fold<K: Clock>(
     alloc: Global,
     clock: K,

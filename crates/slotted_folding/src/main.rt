@@ -1,9 +1,11 @@
-//! The program `slotted_folding`: arithmetic terms in, what they fold to out.
+//! The program `slotted_folding`: arithmetic terms in, and what they fold to out.
 //!
-//! Each line is a term of the written language, with a graph of its own. The rules of arithmetic run until they change nothing or a limit is passed, and
-//! sums and products of numbers become numbers. The answer is a smallest term that equals the line's, and how large the graph has become.
+//! Each line is a term of the language of `slotted_small`, and has a graph of its own. The rules of arithmetic run
+//! until they change nothing or a limit is passed. Sums and products of numbers become numbers. The answer is a
+//! smallest term that equals the line's, and the size of the graph.
 //!
-//! A line `turns N` sets the limit of turns for the lines behind it. Such a line, an empty one and one that begins with `#` are written as they stand.
+//! A line `turns N` sets the limit of turns for the lines behind it. Such a line is written as it stands, and so are an
+//! empty line and a line that begins with `#`.
 #![tactic(auto)]
 
 mod folding;
@@ -44,7 +46,7 @@ fn answer_term(rt: &HostRuntime, turn_limit: usize, line: &str) -> Result<()> {
     }
 }
 
-// Answers a line, and returns the limit of turns for the next one.
+// Answers a line. Returns the limit of turns for the next one.
 fn answer_line(rt: &HostRuntime, turn_limit: usize, line: &str) -> Result<usize> {
     if let Some(number) = line.strip_prefix("turns ") {
         println!(rt; "{line}")?;

@@ -6,10 +6,11 @@ use slotted_slots::Error;
 use slotted_small::Small;
 use std::alloc::Global;
 
-/// A rule of arithmetic. None of them has a condition.
+/// A rule of arithmetic, which has no condition.
 pub type Rule = Rewrite<Small, Always>;
 
-// The name and both sides of each rule. With associativity of products a product with 0 would never be saturated: it has each such product as a part.
+// The name and both sides of each rule. Associativity of products is left out. With it a product with 0 would never be
+// saturated, since it has each such product as a part.
 const RULES: [(&str, &str, &str); 7] = [
     ("commutative-add", "(add ?a ?b)", "(add ?b ?a)"),
     ("commutative-mul", "(mul ?a ?b)", "(mul ?b ?a)"),
@@ -28,7 +29,7 @@ const RULES: [(&str, &str, &str); 7] = [
     ("mul-zero", "(mul ?a 0)", "0"),
 ];
 
-// The rule of a name and two texts.
+// Returns the rule of a name and two texts.
 fn rule<N: Analysis<Small>>(
     alloc: Global,
     graph: &mut EGraph<Small, N>,

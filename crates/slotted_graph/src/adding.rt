@@ -1,4 +1,5 @@
-//! Adding nodes and terms: by what children find, which gives equal nodes one id, or by canonical nodes, which keeps each term as it was given.
+//! Adding e-nodes and terms: by canonical e-nodes, which gives equal e-nodes one id, or by syntactic e-nodes, which
+//! keeps each term as it was given.
 ghost use Rattle.std.specs.Prelude.{◌≡◌, ◌⊎◌, ◌↔◌, Some, IsErr, IsErrOf, IsSome, IsTrue, IfErr, IfOk, OnOk};
 ghost use Rattle.slotted_slots.specs.Error.{IsShortage};
 ghost use Rattle.slotted_slots.specs.Table.{KnowsMore};
@@ -27,7 +28,8 @@ use slotted_slots::{AppliedId, Error};
 use slotted_terms::expr::RecExpr;
 
 impl<L: Language, N: Analysis<L>> EGraph<L, N> {
-    // Adds a node, and modifies classes. An edit may turn what the node is looked up as, so the node is added again after edits.
+    // Adds an e-node, and modifies classes. An edit may change what the e-node is looked up as, so the e-node is added
+    // again after edits.
     fn add_and_modify(&mut self, node: &L) -> Result<AppliedId, Error>
         requires { IsTrue self.old.failed ⊎ IsValidNode self.old (L.form node.now) }
         ensures id { IfOk result (λ a. look_up self.new (L.form node.now) ≡ Some (to_applied a)) }
@@ -40,44 +42,45 @@ impl<L: Language, N: Analysis<L>> EGraph<L, N> {
         ensures only { IfErr result (λ e. (e ≡ Error.Failed) ⊎ IsShortage e) }
     {
         let id = self.add_quietly(node)?;
-        // It is asked for what each graph keeps that has not failed.
+        // This call is there for its clauses: what holds of each graph that has not failed.
         let _ = self.is_failed();
         if self.pending_classes() == 0 {
             return Ok(id);
         }
         self.modify()?;
         let again = self.add_quietly(node);
-        // It is asked for what each graph keeps that has not failed.
+        // This call is there for its clauses: what holds of each graph that has not failed.
         let _ = self.is_failed();
         again
     }
 
-    /// Returns what a node is looked up as. If it is not, adds a class of it, whose slots are fresh. Names that its children lack are filled by
-    /// fresh ones first.
+    /// Returns what an e-node is looked up as. If there is no answer, adds a class of the e-node, whose slots are
+    /// fresh. Names that its children omit are filled in first, by fresh slots.
     ///
     /// Then classes are modified, as `modify` does.
     pub fn add(&mut self, node: L) -> Result<AppliedId, Error>
         requires { IsTrue self.old.failed ⊎ IsValidNode self.old (L.form node) }
 
-        // The answer is what a look-up answers from now on, what it finds itself, and equal to the node by what was asserted.
+        // The answer is a canonical id, equal to the e-node by what was asserted. From now on a look-up answers it.
         ensures id { IfOk result (λ a. look_up self.new (L.form node) ≡ Some (to_applied a)) }
         ensures found { IfOk result (λ a. IsFound self.new (to_applied a)) }
         ensures equal { IfOk result (λ a. IsEqualToNode self.new.image (to_applied a) (L.form node)) }
 
-        // What was there stays, and nothing is asserted but what was asked for by the analysis.
+        // What was there stays, and only what the analysis asks for is asserted.
         ensures leaves { OnOk result (LeavesAsked N.codes N.meaning N.may_ask self.old self.new) }
         ensures modified { OnOk result (AddsAndModifies N.codes N.meaning N.may_ask N.modifies (MakesForNode (L.form node)) self.old self.new) }
         ensures extends { OnOk result (Extends self.old.image.canonical self.new.image.canonical) }
         ensures more { IfUnmodified N.modifies (KnowsMore self.old.table self.new.table) }
 
-        // If classes are never modified, a class is made only if there was no answer, and no other class is made. Ids find what they found, and
-        // what was looked up is looked up as before.
+        // If classes are never modified, a class is added only if there was no answer, and no other class is added.
+        // What `find` maps ids to stays, and so does what was looked up.
         ensures kept { IfUnmodified N.modifies (OnOk result (IsSome (look_up self.old (L.form node)) → IsOneGraph self.old self.new)) }
         ensures made { IfUnmodified N.modifies (IfOk result (λ a. MakesClassFor self.old self.new (L.form node) (to_applied a))) }
         ensures answers { IfUnmodified N.modifies (OnOk result (KeepsLookUps self.old self.new)) }
         ensures adds { IfUnmodified N.modifies (OnOk result (AddsClasses self.old.image self.new.image)) }
 
-        // And if a class is made, fresh slots are made for its names, and for those that children lack.
+        // If classes are never modified, and a class is added, fresh slots are made for its names, and for those that
+        // children omit.
         ensures takes { IfUnmodified N.modifies (MakesAtMost (slots_needed self.old.image (L.form node)) self.old.table self.new.table) }
         ensures full { IfUnmodified N.modifies (IsErrOf result Error.OutOfSlots → RunsOutForUnknown self.old self.new (L.form node)) }
         ensures carries { IfUnmodified N.modifies (OnOk result (CarriesData N.codes N.meaning self.old self.new)) }
@@ -92,12 +95,12 @@ impl<L: Language, N: Analysis<L>> EGraph<L, N> {
             return self.add_and_modify(&node);
         }
         let answer = self.add_quietly(&node);
-        // It is asked for what each graph keeps that has not failed.
+        // This call is there for its clauses: what holds of each graph that has not failed.
         let _ = self.is_failed();
         answer
     }
 
-    // Adds a node by canonical nodes, and modifies classes.
+    // Adds an e-node by syntactic e-nodes, and modifies classes.
     fn add_syn_and_modify(&mut self, node: &L) -> Result<AppliedId, Error>
         requires { IsTrue self.old.failed ⊎ IsValidNode self.old (L.form node.now) }
         ensures valid { IfOk result (λ a. IsFullId self.new (to_applied a)) }
@@ -109,30 +112,32 @@ impl<L: Language, N: Analysis<L>> EGraph<L, N> {
         ensures only { IfErr result (λ e. (e ≡ Error.Failed) ⊎ IsShortage e) }
     {
         let id = self.add_syn_quietly(node)?;
-        // It is asked for what each graph keeps that has not failed.
+        // This call is there for its clauses: what holds of each graph that has not failed.
         let _ = self.is_failed();
         self.modify()?;
         Ok(id)
     }
 
-    /// Returns the class that was made with a node, with the node's names put in. If there is none, adds a class, whose slots are fresh. It is
-    /// united with the class that has an equal node, if there is one. Names that children lack are filled by fresh ones first.
+    /// Returns the class that was made with an e-node, with the e-node's names put in. If there is none, adds a class,
+    /// whose slots are fresh. The new class is united with the class that has an equal e-node, if there is one. Names
+    /// that children omit are filled in first, by fresh slots.
     ///
     /// Then classes are modified, as `modify` does.
     pub fn add_syn(&mut self, node: L) -> Result<AppliedId, Error>
         requires { IsTrue self.old.failed ⊎ IsValidNode self.old (L.form node) }
 
-        // The answer is valid, has all names, and stands for the node over what its children stand for.
+        // The answer is a full id, and stands for the e-node over what its children stand for.
         ensures valid { IfOk result (λ a. IsFullId self.new (to_applied a)) }
         ensures stands { IfOk result (λ a. AddsSynBefore self.old self.new (L.form node) (to_applied a)) }
 
-        // What was there stays, and nothing is asserted but what was asked for by the analysis.
+        // What was there stays, and only what the analysis asks for is asserted.
         ensures leaves { OnOk result (LeavesAsked N.codes N.meaning N.may_ask self.old self.new) }
         ensures modified { OnOk result (AddsAndModifies N.codes N.meaning N.may_ask N.modifies (MakesForSynNode (L.form node)) self.old self.new) }
         ensures extends { OnOk result (Extends self.old.image.canonical self.new.image.canonical) }
         ensures more { IfUnmodified N.modifies (KnowsMore self.old.table self.new.table) }
 
-        // If classes are never modified, and a class is made, fresh slots are made for its names, and for those that children lack.
+        // If classes are never modified, and a class is added, fresh slots are made for its names, and for those that
+        // children omit.
         ensures syn { IfUnmodified N.modifies (IfOk result (λ a. AddsSyn self.old self.new (L.form node) (to_applied a))) }
         ensures adds { IfUnmodified N.modifies (OnOk result (AddsClasses self.old.image self.new.image)) }
         ensures takes { IfUnmodified N.modifies (MakesAtMost (slots_needed self.old.image (L.form node)) self.old.table self.new.table) }
@@ -152,12 +157,13 @@ impl<L: Language, N: Analysis<L>> EGraph<L, N> {
             return self.add_syn_and_modify(&node);
         }
         let answer = self.add_syn_quietly(&node);
-        // It is asked for what each graph keeps that has not failed.
+        // This call is there for its clauses: what holds of each graph that has not failed.
         let _ = self.is_failed();
         answer
     }
 
-    // Adds a term, and modifies classes. An edit may turn what the term is looked up as, so the term is added again after edits.
+    // Adds a term, and modifies classes. An edit may change what the term is looked up as, so the term is added again
+    // after edits.
     fn add_expr_and_modify(&mut self, term: &RecExpr<L>) -> Result<AppliedId, Error>
         requires { IsTrue self.old.failed ⊎ IsValidTerm self.old.table term.now }
         ensures id { IfOk result (λ a. look_up_term self.new term.now ≡ Some (to_applied a)) }
@@ -170,44 +176,48 @@ impl<L: Language, N: Analysis<L>> EGraph<L, N> {
         ensures only { IfErr result (λ e. (e ≡ Error.Failed) ⊎ IsShortage e) }
     {
         let id = self.add_expr_quietly(term)?;
-        // It is asked for what each graph keeps that has not failed.
+        // This call is there for its clauses: what holds of each graph that has not failed.
         let _ = self.is_failed();
         if self.pending_classes() == 0 {
             return Ok(id);
         }
         self.modify()?;
         let again = self.add_expr_quietly(term);
-        // It is asked for what each graph keeps that has not failed.
+        // This call is there for its clauses: what holds of each graph that has not failed.
         let _ = self.is_failed();
         again
     }
 
-    /// Returns what a term is looked up as, child by child. If a node is not, adds a class of it, as `add` does.
+    /// Returns what a term is looked up as, from its innermost e-nodes on. Adds a class for each e-node for which there
+    /// is no answer, as `add` does.
     ///
     /// Then classes are modified, as `modify` does.
     pub fn add_expr(&mut self, term: &RecExpr<L>) -> Result<AppliedId, Error>
         requires { IsTrue self.old.failed ⊎ IsValidTerm self.old.table term.now }
 
-        // The answer is what a look-up of the term answers from now on, what it finds itself, and equal to the term by what was asserted.
+        // The answer is a canonical id, equal to the term by what was asserted. From now on a look-up of the term
+        // answers it.
         ensures id { IfOk result (λ a. look_up_term self.new term.now ≡ Some (to_applied a)) }
         ensures found { IfOk result (λ a. IsFound self.new (to_applied a)) }
         ensures equal { IfOk result (λ a. IsEqualToTerm self.new.image (to_applied a) term.now) }
 
-        // What was there stays, and nothing is asserted but what was asked for by the analysis.
+        // What was there stays, and only what the analysis asks for is asserted.
         ensures leaves { OnOk result (LeavesAsked N.codes N.meaning N.may_ask self.old self.new) }
         ensures modified { OnOk result (AddsAndModifies N.codes N.meaning N.may_ask N.modifies (MakesForTerm term.now) self.old self.new) }
         ensures extends { OnOk result (Extends self.old.image.canonical self.new.image.canonical) }
         ensures more { IfUnmodified N.modifies (KnowsMore self.old.table self.new.table) }
 
-        // If classes are never modified, and the term was looked up, nothing changes. Else its nodes are added from below, and each class that is
-        // made is what a subterm is looked up as from now on. Ids find what they found, and what was looked up is looked up as before.
+        // If classes are never modified, and a look-up of the term has an answer, nothing changes. If not, the term's
+        // e-nodes are added from below. A look-up of some subterm answers each new class. What `find` maps ids to
+        // stays, and so does what was looked up.
         ensures kept { IfUnmodified N.modifies (OnOk result (IsSome (look_up_term self.old term.now) → IsOneGraph self.old self.new)) }
         ensures nodes { IfUnmodified N.modifies (OnOk result (AddsNodes term.now self.old (term_nodes term.now) self.new)) }
         ensures filed { IfUnmodified N.modifies (OnOk result (FilesOnlyLookedUp self.old self.new term.now)) }
         ensures answers { IfUnmodified N.modifies (OnOk result (KeepsLookUps self.old self.new)) }
         ensures adds { IfUnmodified N.modifies (OnOk result (AddsClasses self.old.image self.new.image)) }
 
-        // And if classes are made, fresh slots are made for their names, and for those that children lack.
+        // If classes are never modified, and classes are added, fresh slots are made for their names, and for those
+        // that children omit.
         ensures takes { IfUnmodified N.modifies (IsTrue self.old.failed ⊎ TakesForTerm term.now self.old self.new.table) }
         ensures full { IfUnmodified N.modifies (IsErrOf result Error.OutOfSlots → LacksForTerm term.now self.old self.new.table) }
         ensures carries { IfUnmodified N.modifies (OnOk result (CarriesData N.codes N.meaning self.old self.new)) }
@@ -222,12 +232,12 @@ impl<L: Language, N: Analysis<L>> EGraph<L, N> {
             return self.add_expr_and_modify(term);
         }
         let answer = self.add_expr_quietly(term);
-        // It is asked for what each graph keeps that has not failed.
+        // This call is there for its clauses: what holds of each graph that has not failed.
         let _ = self.is_failed();
         answer
     }
 
-    // Adds a term by canonical nodes, and modifies classes.
+    // Adds a term by syntactic e-nodes, and modifies classes.
     fn add_syn_expr_and_modify(&mut self, term: &RecExpr<L>) -> Result<AppliedId, Error>
         requires { IsTrue self.old.failed ⊎ IsValidTerm self.old.table term.now }
         ensures valid { IfOk result (λ a. IsFullId self.new (to_applied a)) }
@@ -240,36 +250,37 @@ impl<L: Language, N: Analysis<L>> EGraph<L, N> {
         ensures only { IfErr result (λ e. (e ≡ Error.Failed) ⊎ IsShortage e) }
     {
         let id = self.add_syn_expr_quietly(term)?;
-        // It is asked for what each graph keeps that has not failed.
+        // This call is there for its clauses: what holds of each graph that has not failed.
         let _ = self.is_failed();
         self.modify()?;
         Ok(id)
     }
 
-    /// Returns the id of a term, whose canonical term it is: from below, the class that was made with each node. If there is none, adds a class.
+    /// Returns the id whose canonical term is this term: from below, the class that was made with each e-node. If there
+    /// is none, adds a class.
     ///
     /// Then classes are modified, as `modify` does.
     pub fn add_syn_expr(&mut self, term: &RecExpr<L>) -> Result<AppliedId, Error>
         requires { IsTrue self.old.failed ⊎ IsValidTerm self.old.table term.now }
 
-        // The answer is valid, stands for the term, and is what a look-up of the term answers from now on.
+        // The answer is valid, and stands for the term. From now on a look-up of the term answers it.
         ensures valid { IfOk result (λ a. IsFullId self.new (to_applied a)) }
         ensures term { IfOk result (λ a. term_of self.new.image.canonical (to_applied a) ≡ nameless term.now) }
         ensures found { IfOk result (λ a. id_of_term self.new term.now ≡ Some (to_applied a)) }
 
-        // What was there stays, and nothing is asserted but what was asked for by the analysis.
+        // What was there stays, and only what the analysis asks for is asserted.
         ensures leaves { OnOk result (LeavesAsked N.codes N.meaning N.may_ask self.old self.new) }
         ensures modified { OnOk result (AddsAndModifies N.codes N.meaning N.may_ask N.modifies (MakesForSynTerm term.now) self.old self.new) }
         ensures extends { OnOk result (Extends self.old.image.canonical self.new.image.canonical) }
         ensures more { IfUnmodified N.modifies (KnowsMore self.old.table self.new.table) }
 
-        // If classes are never modified, and the term has an id, nothing changes. Each class that is made is what a subterm is looked up as from now
-        // on.
+        // If classes are never modified, and the term has an id, nothing changes. A look-up of some subterm answers
+        // each new class.
         ensures kept { IfUnmodified N.modifies (OnOk result (IsSome (id_of_term self.old term.now) → IsOneGraph self.old self.new)) }
         ensures filed { IfUnmodified N.modifies (OnOk result (FilesOnlySubterms self.old self.new term.now)) }
         ensures adds { IfUnmodified N.modifies (OnOk result (AddsClasses self.old.image self.new.image)) }
 
-        // And if classes are made, fresh slots are made for their names.
+        // If classes are never modified, and classes are added, fresh slots are made for their names.
         ensures takes { IfUnmodified N.modifies (MakesAtMost (term_slots term.now) self.old.table self.new.table) }
         ensures full { IfUnmodified N.modifies (IsErrOf result Error.OutOfSlots
             → CanRunOutForTerm self.old.image term.now self.old.table self.new.table) }
@@ -286,7 +297,7 @@ impl<L: Language, N: Analysis<L>> EGraph<L, N> {
             return self.add_syn_expr_and_modify(term);
         }
         let answer = self.add_syn_expr_quietly(term);
-        // It is asked for what each graph keeps that has not failed.
+        // This call is there for its clauses: what holds of each graph that has not failed.
         let _ = self.is_failed();
         answer
     }

@@ -15,7 +15,7 @@ use slotted_languages::Language;
 use slotted_slots::{AppliedId, Error};
 use slotted_terms::RecExpr;
 
-// The id of a term, which is added.
+// Adds a term. Returns its id.
 fn add_term<L: Language, N: Analysis<L>>(
     graph: &mut EGraph<L, N>,
     term: &RecExpr<L>,
@@ -27,12 +27,12 @@ fn add_term<L: Language, N: Analysis<L>>(
     ensures err { IfErr result IsShortage }
 {
     let id = graph.add_syn_expr_quietly(term)?;
-    // It is asked for what each graph keeps that has not failed.
+    // This call is there for its clauses: what holds of each graph that has not failed.
     let _ = graph.is_failed();
     Ok(id)
 }
 
-// Two ids are equal.
+// Asserts that two ids are equal.
 fn unite<L: Language, N: Analysis<L>>(
     graph: &mut EGraph<L, N>,
     left: &AppliedId,
@@ -46,12 +46,12 @@ fn unite<L: Language, N: Analysis<L>>(
     ensures err { IfErr result IsShortage }
 {
     graph.union_quietly(left, right, None)?;
-    // It is asked for what each graph keeps that has not failed.
+    // This call is there for its clauses: what holds of each graph that has not failed.
     let _ = graph.is_failed();
     Ok(())
 }
 
-// Two terms are equal.
+// Adds two terms, and asserts that they are equal.
 fn equate<L: Language, N: Analysis<L>>(
     graph: &mut EGraph<L, N>,
     class: &AppliedId,
@@ -70,7 +70,7 @@ fn equate<L: Language, N: Analysis<L>>(
     unite(graph, &a, &b)
 }
 
-/// Makes an edit of a class: its terms are added, and what it says is asserted, without a text.
+/// Makes an edit of a class: adds its terms, and asserts what it says, without a text.
 pub fn make_edit<L: Language, N: Analysis<L>>(
     graph: &mut EGraph<L, N>,
     class: &AppliedId,

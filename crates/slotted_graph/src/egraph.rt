@@ -1,4 +1,4 @@
-//! The graph that callers see: a failed one refuses every later call.
+//! The graph that callers use. A failed graph refuses every later call.
 ghost use Rattle.std.specs.Prelude.{◌≡◌, ◌<◌, ◌↔◌, ◌⊎◌, length, true, false, IsTrue, IsOk, IfOk, IfErr, OnOk};
 ghost use Rattle.std.specs.Prelude.{IsErr, IsErrOf, IsOkUnless, IsSome, IfSome, None, Some, [], map, option_map};
 ghost use Rattle.slotted_slots.specs.Error.{IsShortage};
@@ -59,29 +59,31 @@ mod reports;
 
 pub use counts::totals_rise;
 
-// How many rounds of edits are made at the end of a write, unless the caller says otherwise.
+// The limit of rounds of edits at the end of a write, unless the caller sets another.
 const USUAL_ROUNDS: usize = 16;
 
 /// A graph of terms with binders, up to alpha-equality.
 ///
-/// Each class has the node that it was made with, its canonical node, over slots of its own and over earlier classes. An
-/// applied id is a class with names for its slots, at least for all that no union dropped. One with all names stands for its
-/// canonical term: the canonical node with the names put in, over the canonical terms of its children.
+/// Each class has the e-node that it was made with, its syntactic e-node, over slots of its own and over earlier
+/// classes. An applied id is a class with names for its slots, at least for all that are not redundant. A full id
+/// stands for its canonical term. This is the syntactic e-node with the names put in, over the canonical terms of its
+/// children.
 ///
-/// A graph that runs out of memory or slots in a call that changes it has failed: from then on each call that answers a
-/// `Result` answers `Failed`, and the table can still be taken out.
+/// A graph fails if a call that changes it runs out of memory or slots. From then on each call that answers a `Result`
+/// answers `Failed`. The table can still be taken out.
 #[derive(Drop)]
 pub struct EGraph<L: Language, N: Analysis<L> = ()> {
     failed: bool,
     store: Store<L>,
     nodes: Hashcons<L>,
-    // Which filed nodes a search goes through: cleared by each call that may change classes or filed nodes.
+    // The filed e-nodes that a search goes through. Each call that may change classes or filed e-nodes clears the
+    // index.
     index: IndexCache<L>,
     table: SlotTable,
-    // The data of each class, which is at rest whenever the graph is.
+    // The data of each class. Nothing is left to carry when the graph is rebuilt.
     data: ClassData<N::Data>,
     analysis: N,
-    // How many rounds of edits are made at the end of a write, at most.
+    // The limit of rounds of edits at the end of a write.
     rounds: usize,
     method: SubstMethod,
     alloc: Global,
@@ -109,7 +111,8 @@ impl<L: Language, N: Analysis<L>> Model for EGraph<L, N> {
 }
 
 impl<L: Language, N: Analysis<L>> EGraph<L, N> {
-    /// Returns the graph without classes, over a table of slots. Substitutions look into canonical terms. Takes no memory.
+    /// Returns the graph without classes, over a table of slots. Its substitutions look into canonical terms. Takes no
+    /// memory.
     pub fn new(alloc: Global, table: SlotTable, analysis: N) -> Result<Self, Error>
         ensures answers { IsOk result }
         ensures failed { IfOk result (λ g. g.failed ≡ false) }
@@ -149,12 +152,12 @@ impl<L: Language, N: Analysis<L>> EGraph<L, N> {
         })
     }
 
-    /// Returns the method that the graph was made with: which terms its substitutions look into. Takes no memory.
+    /// Returns which terms the graph's substitutions look into. Takes no memory.
     pub fn subst_method(&self) -> SubstMethod {
         self.method
     }
 
-    /// Marks the graph failed, as a write of a crate above that runs out of memory or slots does. Takes no memory.
+    /// Makes the graph a failed one, for a write of a crate above that runs out of memory or slots. Takes no memory.
     pub fn fail(&mut self)
         ensures { self.new ≡ record self.old { failed = true } }
     {
@@ -168,7 +171,7 @@ impl<L: Language, N: Analysis<L>> EGraph<L, N> {
         &self.table
     }
 
-    /// Takes the graph's table of slots out. This works on a failed graph too.
+    /// Returns the graph's table of slots, and drops the graph, which may have failed.
     pub fn into_table(self) -> SlotTable
         ensures { result ≡ self.table }
     {
@@ -180,79 +183,86 @@ impl<L: Language, N: Analysis<L>> EGraph<L, N> {
         ensures failed { result ≡ self.now.failed }
         ensures canonical { IsTrue self.now.failed ⊎ Canonical self.now.image.canonical }
 
-        // What each graph that has not failed keeps: each entry of the proof list is proved by its step over earlier entries, or
-        // asserted, and no equation stands twice.
+        // In each graph that has not failed, a step proves each entry of the proof list over earlier entries, or the
+        // entry is asserted. No equation stands twice.
         ensures proved { IsTrue self.now.failed ⊎ Proved self.now.image.canonical self.now.image.entries }
 
-        // And the node of each class is looked up, as an id that is found together with the class.
+        // In each graph that has not failed, a look-up answers the syntactic e-node of each class, by an id that is
+        // found equal to the class.
         ensures nodes { IsTrue self.now.failed ⊎ AreLookedUp self.now }
 
-        // An id whose class no open symmetry affects represents its canonical term.
+        // In each graph that has not failed, an id represents its canonical term if no open symmetry affects its class.
         ensures terms { IsTrue self.now.failed ⊎ AreRepresented self.now }
 
-        // And it has a state of the model that is at rest.
+        // Each graph that has not failed has a rebuilt state of the model.
         ensures rests { IsTrue self.now.failed ⊎ IsGraph self.now }
     {
         self.failed
     }
 
-    /// Returns whether an applied id is one of this graph: a class of it, with different known names for slots of the class, among them all that no
-    /// union dropped. A valid id stays valid. Nothing is valid in a failed graph. Takes no memory.
+    /// Returns whether an applied id is of this graph: its class is, and it has different known names for slots of the
+    /// class, among them all that are not redundant.
+    ///
+    /// A valid id stays valid. No id is valid in a failed graph. Takes no memory.
     pub fn is_valid(&self, a: &AppliedId) -> bool
         ensures { IsTrue result ↔ ((self.now.failed ≡ false) × IsValidId self.now (to_applied a.now)) }
     {
         !self.failed && is_valid(&self.store, &self.table, a)
     }
 
-    /// Returns whether an applied id has a name for each slot of its class, also for those that unions dropped: it is valid then, and lacks no
-    /// name. Nothing is full in a failed graph. Takes no memory.
+    /// Returns whether an applied id is valid, and has a name for each slot of its class, redundant ones included. No
+    /// id is full in a failed graph. Takes no memory.
     pub fn is_full(&self, a: &AppliedId) -> bool
         ensures { IsTrue result ↔ ((self.now.failed ≡ false) × IsFullId self.now (to_applied a.now)) }
     {
         !self.failed && is_full_id(&self.store, &self.table, a)
     }
 
-    /// Returns whether a node is one over this graph: its slots are known, its children are valid, and it has fewer than 2^30
-    /// places. Nothing is valid in a failed graph. Takes no memory.
+    /// Returns whether an e-node is over this graph: its slots are known, its children are valid, and it has fewer than
+    /// 2^30 places. No e-node is valid in a failed graph. Takes no memory.
     pub fn is_valid_node(&self, node: &L) -> bool
         ensures { IsTrue result ↔ ((self.now.failed ≡ false) × IsValidNode self.now (L.form node.now)) }
     {
         !self.failed && is_valid_node(&self.store, &self.table, node)
     }
 
-    /// Returns whether a term can be added: at each node the number of children is right and the own slots are known. The child ids
-    /// inside the nodes are not looked at. A node with 2^30 places or more cannot be read: a term with one is not valid.
-    /// Nothing is valid in a failed graph. Memory for a list that is refused changes no answer.
+    /// Returns whether a term can be added: each e-node has the right number of children, and own slots that the table
+    /// knows.
+    ///
+    /// The child ids inside the e-nodes are not read. An e-node with 2^30 places or more cannot be numbered, and a term
+    /// with one is not valid. No term is valid in a failed graph. If memory for a list is refused, no answer changes.
     pub fn is_valid_expr(&self, term: &RecExpr<L>) -> bool
         ensures failed { IsTrue result → self.now.failed ≡ false }
         ensures valid { IsTrue result → IsValidTerm self.now.table term.now }
 
-        // No term shows the ids inside its nodes: so a yes is promised where no node that could stand in the term is too large.
+        // No term shows the ids inside its e-nodes. So true is promised if no e-node that could stand in the term is
+        // too large.
         ensures exact { self.now.failed ≡ false → IsSmallValidTerm L.form self.now.table term.now → IsTrue result }
     {
         !self.failed && is_valid_term(&self.table, term)
     }
 
-    /// Returns whether two ids are equal by what was asserted: whether they find the same. They may lack names for slots that unions dropped.
-    /// Takes no memory.
+    /// Returns whether two ids are found equal: `find` maps them to the same class with the same names. The ids may
+    /// omit names of redundant slots. Takes no memory.
     ///
-    /// A yes is always right. A no is, unless both ids find classes that an open symmetry affects: one of `symmetries_met` whose two sides
-    /// `eq` tells apart, or a class with a node over such a class.
+    /// If the answer is true, the ids are equal by what was asserted. If it is false, they are not, unless open
+    /// symmetries affect the classes of both. An open symmetry is one of `symmetries_met` to whose two sides `eq`
+    /// answers false. It affects its class, and each class with an e-node over an affected one.
     pub fn eq(&self, a: &AppliedId, b: &AppliedId) -> Result<bool, Error>
         requires left { IsTrue self.now.failed ⊎ IsValidId self.now (to_applied a.now) }
         requires right { IsTrue self.now.failed ⊎ IsValidId self.now (to_applied b.now) }
         ensures found { IfOk result (λ y. IsTrue y ↔ FoundAlike self.now.image (to_applied a.now) (to_applied b.now)) }
 
-        // A yes is derivable from what was asserted, whatever names are filled in for those that an id lacks. Where nothing was asserted
-        // ids lack none, and it is a yes exactly if the canonical terms are equal.
+        // If the answer is true, the ids are derivably equal, whatever names are filled in for those that they omit. If
+        // nothing was asserted, ids omit none, and the answer is whether the canonical terms are equal.
         ensures filled { IfOk result (SaysFillingsEqual self.now.image (to_applied a.now) (to_applied b.now)) }
         ensures whole { OnOk result (LackNothing self.now.image (to_applied a.now) (to_applied b.now)) }
         ensures equal { IfOk result (SaysEqual self.now.image (to_applied a.now) (to_applied b.now)) }
         ensures derivable { IfOk result (SaysDerivable self.now.image (to_applied a.now) (to_applied b.now)) }
         ensures terms { IfOk result (SaysTerms self.now.image (to_applied a.now) (to_applied b.now)) }
 
-        // It is a yes where what they stand for is derivable, for some names that are filled in, unless open symmetries affect both: also
-        // through terms that were never added, and under binders.
+        // The answer is true if what the ids stand for is derivably equal for some names that are filled in, unless
+        // open symmetries affect both. That holds through terms that were never added, and under binders.
         ensures complete { IfOk result (IsYesIfDerivable self.now.image (to_applied a.now) (to_applied b.now)) }
         ensures complete_equal { IfOk result (IsYesIfEqual self.now.image (to_applied a.now) (to_applied b.now)) }
 
@@ -265,17 +275,20 @@ impl<L: Language, N: Analysis<L>> EGraph<L, N> {
         Ok(self.store.eq(a, b))
     }
 
-    /// Returns the term that a text writes, as `RecExpr::parse` reads it: each slot's name is looked up or kept in the graph's table.
-    /// A text that is refused does not fail the graph, and the names that were read before it stay in the table.
+    /// Returns the term that a text writes, as `RecExpr::parse` reads it. Each slot's name is looked up or kept in the
+    /// graph's table.
+    ///
+    /// A text that is refused does not fail the graph. The names that were read before the error stay in the table.
     pub fn parse_expr(&mut self, text: &str) -> Result<RecExpr<L>, Error>
-        // The answer is that of the text over the graph's table, and it can be added.
+        // The answer is that of the text over the graph's table, and the term can be added.
         ensures answer { AnswersTerm L.read self.old self.new text.now result }
         ensures valid { IfOk result (λ t. IsValidTerm self.new.table t) }
 
-        // It was read as a pattern of nodes of the language: so what it prints reads as it (`each_term_reads_as_itself`).
+        // The term was read as a pattern of e-nodes of the language. So what it prints reads as itself
+        // (`each_term_reads_as_itself`).
         ensures nodes { IfOk result (NodesAreRead L.form L.read self.old self.new text.now) }
 
-        // Only the table changes, and on a failed graph nothing does.
+        // Only the table changes. On a failed graph nothing changes.
         ensures reads { OnlyReads self.old self.new }
         ensures stays { IsTrue self.old.failed → self.new ≡ self.old }
 
@@ -287,7 +300,8 @@ impl<L: Language, N: Analysis<L>> EGraph<L, N> {
         RecExpr::parse(self.alloc, text, &mut self.table)
     }
 
-    /// Unites two ids as `union_justified` does, and modifies no class. What was made or has changed waits.
+    /// Unites two ids as `union_justified` does, and modifies no class. New classes, and those whose data has changed,
+    /// wait to be modified.
     pub fn union_quietly(
         &mut self,
         l: &AppliedId,
@@ -297,13 +311,15 @@ impl<L: Language, N: Analysis<L>> EGraph<L, N> {
         requires left { IsTrue self.old.failed ⊎ IsValidId self.old (to_applied l.now) }
         requires right { IsTrue self.old.failed ⊎ IsValidId self.old (to_applied r.now) }
 
-        // True or false as `eq` said no or yes before. The equation then stands in the proof list, and what was there stays.
+        // The answer is true if `eq` answered false before. The equation stands in the proof list then, and what was
+        // there stays.
         ensures union { IfOk result (IsUnion self.old.image self.new.image (to_applied l.now) (to_applied r.now)) }
 
-        // Where it was not proved before, it is a new entry, asserted with the text.
+        // If the equation was not proved before, it is a new entry, asserted with the text.
         ensures text { OnOk result (RecordsUnion self.old self.new l.now r.now (text_bytes text)) }
 
-        // No node is filed anew where it answers false. No class is made, no more live, and where as many live, they have no more slots.
+        // If the answer is false, no e-node is filed anew. No class is added, and no more are live. If as many are live
+        // as before, they have no more slots.
         ensures filed { IfOk result (λ y. y ≡ false → self.new.filed ≡ self.old.filed) }
         ensures counts { OnOk result (NeverRises self.old.image self.new.image) }
 
@@ -337,14 +353,14 @@ impl<L: Language, N: Analysis<L>> EGraph<L, N> {
         Ok(answer)
     }
 
-    /// Returns the symmetries that unions met, in the order in which they were met: each says that a class equals itself with its slots in
-    /// another order. A symmetry is open until its two sides find alike.
+    /// Returns the symmetries that unions met, in the order in which they were met. Each says that a class equals
+    /// itself with its slots in another order. A symmetry is open until its two sides are found equal.
     pub fn symmetries_met(&self) -> &[Symmetry]
         ensures list { map symmetry_entry result.now ≡ self.now.image.symmetries }
         ensures each { IsTrue self.now.failed ⊎ AreSymmetries self.now.image }
         ensures once { IsTrue self.now.failed ⊎ AreListedOnce self.now.image }
 
-        // So `eq` can be asked of the two sides of each.
+        // So `eq` can be asked of the two sides of each symmetry.
         ensures sides { IsTrue self.now.failed ⊎ HaveValidSides self.now }
     {
         self.store.symmetries()

@@ -17,7 +17,7 @@ use slotted_slots::Error;
 use slotted_terms::expr::RecExpr;
 
 impl<L: Language, N: Analysis<L>> EGraph<L, N> {
-    // Adds two terms, and modifies classes, before they are explained.
+    // Adds two terms, and modifies classes, before the terms are explained.
     fn explain_after_edits(
         &mut self,
         left: &RecExpr<L>,
@@ -38,8 +38,10 @@ impl<L: Language, N: Analysis<L>> EGraph<L, N> {
         self.explain_quietly(left, right)
     }
 
-    /// Returns the proof that two terms are equal: the number of an entry of the proof list that says so of their ids. The terms are added
-    /// first, and they stay if the graph does not find them equal. Classes are modified before the graph is asked.
+    /// Returns the proof that two terms are equal: the number of the entry of the proof list that says so of their ids.
+    ///
+    /// The terms are added first, and they stay if they are not found equal. Classes are modified before the terms are
+    /// compared.
     pub fn explain_equivalence(
         &mut self,
         left: &RecExpr<L>,
@@ -48,16 +50,18 @@ impl<L: Language, N: Analysis<L>> EGraph<L, N> {
         requires left { IsTrue self.old.failed ⊎ IsValidTerm self.old.table left.now }
         requires right { IsTrue self.old.failed ⊎ IsValidTerm self.old.table right.now }
 
-        // Each yes is explained, and `NotEqual` is answered exactly where the ids of the terms do not find alike. `NotEqual` does not fail the
-        // graph. What was there stays, and nothing is asserted but what was asked for by the analysis.
+        // Terms that are equal by `eq` are explained. The answer is `NotEqual` if and only if the ids of the terms are
+        // not found equal. `NotEqual` does not fail the graph. What was there stays, and only what the analysis asks
+        // for is asserted.
         ensures explains { IfOk result (Explains self.new.image left.now right.now) }
         ensures not_equal { IsErrOf result Error.NotEqual → FindsApart self.new.image left.now right.now }
         ensures leaves { IsTrue self.new.failed ⊎ LeavesAsked N.codes N.meaning N.may_ask self.old self.new }
 
-        // If classes are never modified, nothing is asserted, and what found alike still does.
+        // If classes are never modified, nothing is asserted, and ids that were found equal still are.
         ensures adds { IfUnmodified N.modifies (IsTrue self.new.failed ⊎ AddsTerms self.old.image self.new.image) }
 
-        // And each class that is made is what a subterm is looked up as from now on, and where both terms have ids there is none.
+        // If classes are never modified, a look-up of some subterm answers each new class. If both terms have ids, no
+        // class is added.
         ensures filed { IfUnmodified N.modifies (IsTrue self.new.failed ⊎ FilesOnlyTerms self.old self.new left.now right.now) }
         ensures kept { IfUnmodified N.modifies (IsTrue self.new.failed ⊎ KeepsKnown self.old self.new left.now right.now) }
         ensures more { IfUnmodified N.modifies (KnowsMore self.old.table self.new.table) }

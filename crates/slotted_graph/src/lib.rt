@@ -1,5 +1,7 @@
-//! E-graphs of terms with binders: terms go in, alpha-equal ones get equal ids, ids are united, and with them all nodes that are equal then.
-//! Each yes is proved, by entries that a union makes or by steps that a caller asks for.
+//! E-graphs of terms with binders.
+//!
+//! Alpha-equal terms that are added get equal ids. If two ids are united, all e-nodes that are equal then are united
+//! too. Each equality is proved, by entries that a union makes or by steps that a caller asks for.
 #![tactic(auto)]
 
 pub mod adding;

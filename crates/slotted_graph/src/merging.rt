@@ -11,16 +11,18 @@ use slotted_languages::Language;
 use slotted_slots::{Error, Id};
 
 impl<L: Language, N: Analysis<L>> EGraph<L, N> {
-    /// Merges a value into the data of the class that a class finds. From there values go upwards. Then classes are modified, as `modify` does.
+    /// Merges a value into the data of the class that `find` maps a class to. From there values go upwards. Then
+    /// classes are modified, as `modify` does.
     pub fn merge_analysis_data(&mut self, id: Id, value: &N::Data) -> Result<(), Error>
         requires { IsTrue self.old.failed ⊎ (id.0 < length self.old.image.canonical) }
 
-        // Data only goes down, and merging the value again changes nothing. What is asserted was asked for by the analysis.
+        // Data is only lowered, and merging the value again changes nothing. Only what the analysis asks for is
+        // asserted.
         ensures modified { OnOk result
             (MergesAndModifies N.codes N.meaning N.may_ask N.modifies self.old self.new id.0 value.now) }
         ensures leaves { OnOk result (LeavesAsked N.codes N.meaning N.may_ask self.old self.new) }
 
-        // If classes are never modified, nothing changes but data.
+        // If classes are never modified, only data changes.
         ensures merges { IfUnmodified N.modifies (OnOk result (MergesData N.codes N.meaning self.old self.new id.0 value.now)) }
         ensures same { IfUnmodified N.modifies (OnOk result (HasSameClasses self.old self.new)) }
 

@@ -1,4 +1,4 @@
-//! What an analysis asks for a class is done.
+//! Making the edits that an analysis asks for a class.
 ghost use Rattle.std.specs.Prelude.{◌≡◌, ◌⊎◌, ◌↔◌, true, IsErr, IsErrOf, IsOk, IsTrue, IfErr, IfOk};
 ghost use Rattle.slotted_slots.specs.Error.{IsShortage};
 ghost use Rattle.slotted_graph.specs.States.{IsGraph};
@@ -12,7 +12,7 @@ use slotted_languages::Language;
 use slotted_slots::{Error, Id};
 use std::alloc::Global;
 
-// Hands the answer of a write on. A graph in which it was refused has failed.
+// Returns the answer of a write, and makes the graph a failed one if the answer is an error.
 fn failing<L: Language, N: Analysis<L>>(
     graph: &mut EGraph<L, N>,
     answer: Result<bool, Error>,
@@ -27,7 +27,7 @@ fn failing<L: Language, N: Analysis<L>>(
     answer
 }
 
-// The edits that are asked for a live class are made. Returns whether there were any.
+// Makes the edits that are asked for a live class. Returns whether there were any.
 fn modify_live<L: Language, N: Analysis<L>>(
     graph: &mut EGraph<L, N>,
     alloc: Global,
@@ -48,9 +48,9 @@ fn modify_live<L: Language, N: Analysis<L>>(
     Ok(!edits.is_empty())
 }
 
-/// Asks the analysis what is to be done for a class, and does it. Returns whether anything was asked.
+/// Asks the analysis for the edits of a class, and makes them. Returns whether there were any.
 ///
-/// Nothing is asked for a class that died.
+/// Nothing is asked for a dead class.
 pub fn modify_class<L: Language, N: Analysis<L>>(
     graph: &mut EGraph<L, N>,
     alloc: Global,
@@ -58,7 +58,7 @@ pub fn modify_class<L: Language, N: Analysis<L>>(
 ) -> Result<bool, Error>
     ensures modifies { IfOk result (λ y. ModifiesClass N.codes N.meaning N.may_ask graph.old id.0 graph.new y) }
 
-    // From this it follows that what was there stays, and that what is asserted is what edits say.
+    // What was there stays, and only what edits say is asserted. This follows from the clauses before.
     ensures leaves { IfOk result (λ y. LeavesModified N.codes N.meaning N.may_ask graph.old graph.new) }
 
     ensures stays { IsTrue graph.old.failed → graph.new ≡ graph.old }

@@ -12,7 +12,7 @@ use slotted_languages::Language;
 use slotted_slots::{Error, Id};
 use std::alloc::Global;
 
-// These classes are modified in turn. Returns whether anything was asked for one of them.
+// Modifies these classes in turn. Returns whether anything was asked for one of them.
 fn modify_each<L: Language, N: Analysis<L>>(
     graph: &mut EGraph<L, N>,
     alloc: Global,
@@ -33,14 +33,15 @@ fn modify_each<L: Language, N: Analysis<L>>(
     Ok(asked)
 }
 
-/// Makes one round: the live classes that wait are taken, and each is modified if it still lives. Returns whether anything was asked.
+/// Makes one round: takes the live classes that wait, and modifies each that still lives. Returns whether anything was
+/// asked.
 pub fn modify_once<L: Language, N: Analysis<L>>(
     graph: &mut EGraph<L, N>,
     alloc: Global,
 ) -> Result<bool, Error>
     ensures round { IfOk result (λ y. TakesRound N.codes N.meaning N.may_ask graph.old graph.new y) }
 
-    // From this it follows that what was there stays, and that what is asserted is what edits say.
+    // What was there stays, and only what edits say is asserted. This follows from the clauses before.
     ensures leaves { IfOk result (λ y. LeavesModified N.codes N.meaning N.may_ask graph.old graph.new) }
 
     ensures stays { IsTrue graph.old.failed → graph.new ≡ graph.old }
@@ -52,12 +53,13 @@ pub fn modify_once<L: Language, N: Analysis<L>>(
         return Err(Error::Failed);
     }
     let ids = graph.take_pending()?;
-    // It is asked for what each graph keeps that has not failed.
+    // This call is there for its clauses: what holds of each graph that has not failed.
     let _ = graph.is_failed();
     modify_each(graph, alloc, &ids)
 }
 
-/// Makes rounds until no live class waits to be modified, but no more than the limit. Returns whether anything was asked.
+/// Makes rounds until no live class waits to be modified, but no more than the limit. Returns whether anything was
+/// asked.
 pub fn modify_in_rounds<L: Language, N: Analysis<L>>(
     graph: &mut EGraph<L, N>,
     alloc: Global,
@@ -65,7 +67,7 @@ pub fn modify_in_rounds<L: Language, N: Analysis<L>>(
 ) -> Result<bool, Error>
     ensures rounds { IfOk result (λ y. MakesRounds N.codes N.meaning N.may_ask limit graph.old graph.new y) }
 
-    // From this it follows that what was there stays, and that what is asserted is what edits say.
+    // What was there stays, and only what edits say is asserted. This follows from the clauses before.
     ensures leaves { IfOk result (λ y. LeavesModified N.codes N.meaning N.may_ask graph.old graph.new) }
 
     ensures stays { IsTrue graph.old.failed → graph.new ≡ graph.old }

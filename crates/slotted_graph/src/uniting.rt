@@ -40,12 +40,14 @@ impl<L: Language, N: Analysis<L>> EGraph<L, N> {
         Ok(answer)
     }
 
-    /// Unites two ids, because the caller says that they are equal. Returns whether they did not find alike before. They may lack names for
-    /// slots that unions dropped: what is asserted is the equation of any two ids that fill them by names apart.
+    /// Unites two ids because the caller says that they are equal. Returns whether they were not found equal before.
     ///
-    /// From now on both find one class with one set of names, and they find alike unless a symmetry of that class is open. Slots that
-    /// only one side has are dropped. Equal nodes over them are united too: what was asserted is closed under congruence again. Then classes are
-    /// modified, as `modify` does.
+    /// The ids may omit names of redundant slots. The asserted equation is that of any two full ids that fill them by
+    /// different names.
+    ///
+    /// From then on `find` maps both ids to one class with one set of names. They are found equal unless a symmetry of
+    /// that class is open. Slots that only one of the sides has are redundant then. Equal e-nodes over the ids are
+    /// united too: what was asserted is closed under congruence again. Then classes are modified, as `modify` does.
     pub fn union(&mut self, l: &AppliedId, r: &AppliedId) -> Result<bool, Error>
         requires left { IsTrue self.old.failed ⊎ IsValidId self.old (to_applied l.now) }
         requires right { IsTrue self.old.failed ⊎ IsValidId self.old (to_applied r.now) }
@@ -54,11 +56,12 @@ impl<L: Language, N: Analysis<L>> EGraph<L, N> {
         ensures answer { IfOk result (λ y. IsTrue y ↔ (¬ FoundAlike self.old.image (to_applied l.now) (to_applied r.now))) }
         ensures extends { OnOk result (ExtendsTo self.old self.new) }
 
-        // If classes are never modified, this is all that has changed.
+        // If classes are never modified, this is the whole change.
         ensures union { IfUnmodified N.modifies (IfOk result (IsUnion self.old.image self.new.image (to_applied l.now) (to_applied r.now))) }
         ensures text { IfUnmodified N.modifies (OnOk result (RecordsUnion self.old self.new l.now r.now None)) }
 
-        // And no node is filed anew where it answers false. No class is made, no more live, and where as many live, they have no more slots.
+        // If the answer is false, no e-node is filed anew. No class is added, and no more are live. If as many are live
+        // as before, they have no more slots.
         ensures filed { IfUnmodified N.modifies (IfOk result (λ y. y ≡ false → self.new.filed ≡ self.old.filed)) }
         ensures counts { IfUnmodified N.modifies (OnOk result (NeverRises self.old.image self.new.image)) }
 
@@ -86,19 +89,21 @@ impl<L: Language, N: Analysis<L>> EGraph<L, N> {
         requires left { IsTrue self.old.failed ⊎ IsValidId self.old (to_applied l.now) }
         requires right { IsTrue self.old.failed ⊎ IsValidId self.old (to_applied r.now) }
 
-        // The ids were united, and then classes were modified. If the equation was not proved before, it is a new entry, asserted with the text.
+        // The ids are united, and then classes are modified. If the equation was not proved before, it is a new entry,
+        // asserted with the text.
         ensures unites { IfOk result
             (UnitesAndModifies N.codes N.meaning N.may_ask N.modifies self.old self.new l.now r.now (text_bytes text)) }
 
-        // True or false as `eq` said no or yes before. What was there stays.
+        // The answer is true if `eq` answered false before. What was there stays.
         ensures answer { IfOk result (λ y. IsTrue y ↔ (¬ FoundAlike self.old.image (to_applied l.now) (to_applied r.now))) }
         ensures extends { OnOk result (ExtendsTo self.old self.new) }
 
-        // If classes are never modified, this is all that has changed.
+        // If classes are never modified, this is the whole change.
         ensures union { IfUnmodified N.modifies (IfOk result (IsUnion self.old.image self.new.image (to_applied l.now) (to_applied r.now))) }
         ensures text { IfUnmodified N.modifies (OnOk result (RecordsUnion self.old self.new l.now r.now (text_bytes text))) }
 
-        // And no node is filed anew where it answers false. No class is made, no more live, and where as many live, they have no more slots.
+        // If the answer is false, no e-node is filed anew. No class is added, and no more are live. If as many are live
+        // as before, they have no more slots.
         ensures filed { IfUnmodified N.modifies (IfOk result (λ y. y ≡ false → self.new.filed ≡ self.old.filed)) }
         ensures counts { IfUnmodified N.modifies (OnOk result (NeverRises self.old.image self.new.image)) }
 
@@ -117,7 +122,7 @@ impl<L: Language, N: Analysis<L>> EGraph<L, N> {
             return self.unite_and_modify(l, r, text);
         }
         let answer = self.union_quietly(l, r, text);
-        // It is asked for what each graph keeps that has not failed.
+        // This call is there for its clauses: what holds of each graph that has not failed.
         let _ = self.is_failed();
         answer
     }

@@ -50,9 +50,10 @@ fn instance<L: Language, N: Analysis<L>>(
 /// Returns the id of an instance of the pattern, in which the ids of the substitution stand for the variables.
 ///
 /// For `b[x := t]` the graph's method of substitution chooses a term for `b`. In this term `t` replaces each topmost
-/// part that is alpha-equal to the canonical term of `x`, and nothing is captured. An e-node of the instance is added
-/// as a syntactic e-node. The answer for a variable is its value, as it was handed in. No class is modified: what was
-/// made waits for `EGraph::modify`.
+/// part that is alpha-equal to the canonical term of `x`, and nothing is captured.
+///
+/// An e-node of the instance is added as a syntactic e-node. The answer for a variable is its value, as it was handed
+/// in. No class is modified: new classes wait for `EGraph::modify`.
 pub fn pattern_subst<L: Language, N: Analysis<L>>(
     alloc: Global,
     graph: &mut EGraph<L, N>,

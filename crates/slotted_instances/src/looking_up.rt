@@ -19,7 +19,8 @@ use slotted_terms::expr::RecExpr;
 use slotted_terms::flat::{FlatNode, flatten};
 use std::alloc::Global;
 
-// Returns what the node over as many of the last ids as it has children is looked up as. They are taken from the list.
+// Returns what the e-node over as many of the last ids as it has children is looked up as. The ids are taken from the
+// list.
 fn lookup_over<L: Language, N: Analysis<L>>(
     graph: &EGraph<L, N>,
     node: L,
@@ -43,7 +44,8 @@ fn lookup_over<L: Language, N: Analysis<L>>(
     graph.lookup(&over)
 }
 
-/// Returns the id of a term, child by child, as `lookup` gives it for each e-node, or `None` if some e-node has none.
+/// Returns the id of a term, from its innermost e-nodes on, as `lookup` gives it for each e-node, or `None` if some
+/// e-node has none.
 ///
 /// An e-node that has 2^30 places or more over the ids of its children is refused with `OutOfSlots`.
 pub fn lookup_rec_expr<L: Language, N: Analysis<L>>(

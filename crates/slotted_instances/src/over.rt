@@ -9,7 +9,7 @@ ghost use Rattle.slotted_instances.specs.Stacked.{ids_before, over_ids};
 use slotted_languages::Language;
 use slotted_slots::{AppliedId, Error};
 
-// Returns the node over the ids, which are as many as its children.
+// Returns the e-node over the ids, which are as many as its children.
 fn with_ids<L: Language>(node: L, mut ids: Vec<AppliedId>) -> L
     requires { length ids.items ≡ length (children (L.form node).tree) }
     ensures { L.form result ≡ node_over (L.form node) (map to_applied ids.items) }
@@ -25,7 +25,7 @@ fn with_ids<L: Language>(node: L, mut ids: Vec<AppliedId>) -> L
     over
 }
 
-/// Returns the node over as many of the last ids as it has children. They are taken from the list.
+/// Returns the e-node over as many of the last ids as it has children. The ids are taken from the list.
 pub(crate) fn over_last<L: Language>(node: L, ids: &mut Vec<AppliedId>) -> Result<L, Error>
     requires { length (children (L.form node).tree) ≤ length ids.old.items }
     ensures ok { IfOk result (λ n. L.form n ≡ over_ids (L.form node) (map to_applied ids.old.items)) }

@@ -18,7 +18,7 @@ use std::alloc::Global;
 /// Returns the id of `b[x := t]`, for three full ids. Its canonical term is that of `b`, in which the canonical term of
 /// `t` replaces each topmost part that is alpha-equal to the canonical term of `x`.
 ///
-/// Nothing is captured, and what is put in is not searched again. No class is modified: what was made waits for
+/// Nothing is captured, and what is put in is not searched again. No class is modified: new classes wait for
 /// `EGraph::modify`.
 pub fn subst_ids<L: Language, N: Analysis<L>>(
     alloc: Global,

@@ -102,7 +102,7 @@ fn test_and_unite<L: Language, N: Analysis<L>>(
 /// they were not found equal before.
 ///
 /// Their equation is a new entry of the proof list with the text, unless it was proved already. No class is modified:
-/// what was made or has changed waits for `EGraph::modify`.
+/// new classes, and those whose data has changed, wait for `EGraph::modify`.
 pub fn union_instantiations<L: Language, N: Analysis<L>>(
     alloc: Global,
     graph: &mut EGraph<L, N>,

@@ -92,7 +92,7 @@ fn push_cluster<L: Language>(
     Ok(())
 }
 
-// Appends which slot of the child's class has which name.
+// Appends the child's map: each slot of the child's class, with its name.
 fn push_map(
     alloc: Global,
     out: &mut String,
@@ -226,8 +226,8 @@ fn push_classes<L: Language, N: Analysis<L>>(
 
 /// Appends a picture of the graph, as text in the DOT language.
 ///
-/// Each live class is a cluster with its slots, each e-node a record, and each child an edge to its class, labelled by
-/// the slots of that class and their names. `dot -Tsvg` draws the picture; since edges end at clusters, the layout
+/// Each live class is a cluster with its slots, and each e-node a record. Each child is an edge to its class, labelled
+/// by the slots of that class and their names. `dot -Tsvg` draws the picture. Since edges end at clusters, the layout
 /// `dot` is needed.
 pub fn graph_to_dot<L: Language, N: Analysis<L>>(
     alloc: Global,

@@ -31,7 +31,7 @@ pub fn related<L: Language>(
     }
 }
 
-/// Returns what an id finds, if the id is valid.
+/// Returns what `find` maps an id to, if the id is valid.
 pub fn found<L: Language>(graph: &EGraph<L>, a: &AppliedId) -> Result<AppliedId, Error> {
     if graph.is_valid(a) {
         graph.find_applied_id(a)
@@ -49,7 +49,7 @@ pub fn own<L: Language>(graph: &EGraph<L>, a: &AppliedId) -> Result<AppliedId, E
     }
 }
 
-/// Returns how many slots the class of an id has left.
+/// Returns how many slots of the class of an id are not redundant.
 pub fn slots_left<L: Language>(graph: &EGraph<L>, a: &AppliedId) -> Result<usize, Error> {
     if !graph.is_valid_id(a.id) {
         return Err(Error::NotATerm);
@@ -159,7 +159,7 @@ fn change(alloc: Global, sides: &mut Equation, how: &str) -> Result<(), Error> {
     Ok(())
 }
 
-// Replaces an id by what it finds.
+// Replaces an id by what `find` maps it to.
 fn find<L: Language>(graph: &EGraph<L>, id: &mut AppliedId) -> Result<(), Error> {
     *id = found(graph, id)?;
     Ok(())
@@ -200,7 +200,7 @@ fn is_first_over(alloc: Global, id: &AppliedId, name: &str) -> Result<bool, Erro
     }
 }
 
-// Returns whether the id has as many slots as its class has left.
+// Returns whether the id has as many slots as its class has slots that are not redundant.
 fn is_narrow<L: Language>(graph: &EGraph<L>, id: &AppliedId) -> Result<bool, Error> {
     Ok(slots_left(graph, id)? == id.m.len())
 }

@@ -1,4 +1,4 @@
-//! What lines about patterns and rules are answered with.
+//! Answers to lines about patterns and rules.
 
 use crate::rule_text::read_rule;
 use crate::rules::{Rule, add_rule, apply};
@@ -10,7 +10,7 @@ use slotted_slots::{AppliedId, Error};
 use slotted_small::Small;
 use std::alloc::Global;
 
-/// Whether a line is one of these.
+/// Returns whether a line is one about patterns or rules.
 pub fn is_asked(line: &str) -> bool {
     line == "counts"
         || line == "apply"
@@ -20,7 +20,7 @@ pub fn is_asked(line: &str) -> bool {
         || line.starts_with("subst ")
 }
 
-// The canonical term of an id.
+// Returns the canonical term of an id.
 fn term_text(alloc: Global, graph: &mut EGraph<Small>, id: &AppliedId) -> Result<String, Error> {
     if !graph.is_valid(id) {
         return Err(Error::Failed);
@@ -29,7 +29,7 @@ fn term_text(alloc: Global, graph: &mut EGraph<Small>, id: &AppliedId) -> Result
     term.text(alloc, graph.table())
 }
 
-// How many matches a pattern has.
+// Returns how many matches a pattern has.
 fn matches(alloc: Global, graph: &mut EGraph<Small>, text: &str) -> Result<String, Error> {
     let pattern = graph.parse_pattern(text)?;
     let found = graph.find_matches(&pattern)?;
@@ -37,7 +37,7 @@ fn matches(alloc: Global, graph: &mut EGraph<Small>, text: &str) -> Result<Strin
     Ok(format!(in alloc; "{count}")?)
 }
 
-// The term of a variable in a match.
+// Returns the term of a variable in a match.
 fn match_term(alloc: Global, graph: &mut EGraph<Small>, text: &str) -> Result<String, Error> {
     let (place, pattern) = text.split_once(": ").unwrap_or((text, ""));
     let (number, variable) = place.split_once(" ").unwrap_or((place, ""));
@@ -54,7 +54,7 @@ fn match_term(alloc: Global, graph: &mut EGraph<Small>, text: &str) -> Result<St
     }
 }
 
-// The canonical term of an instance of a pattern without variables.
+// Returns the canonical term of an instance of a pattern without variables.
 fn instance(alloc: Global, graph: &mut EGraph<Small>, text: &str) -> Result<String, Error> {
     let pattern = graph.parse_pattern(text)?;
     let subst = Subst::new(alloc);
@@ -62,7 +62,7 @@ fn instance(alloc: Global, graph: &mut EGraph<Small>, text: &str) -> Result<Stri
     term_text(alloc, graph, &id)
 }
 
-// How many live classes, filed nodes and asserted equations there are.
+// Returns how many live classes, filed e-nodes and asserted equations there are.
 fn counts(alloc: Global, graph: &EGraph<Small>) -> Result<String, Error> {
     let live = graph.ids()?.len();
     let nodes = graph.total_number_of_nodes();
@@ -70,7 +70,7 @@ fn counts(alloc: Global, graph: &EGraph<Small>) -> Result<String, Error> {
     Ok(format!(in alloc; "{live} {nodes} {asserted}")?)
 }
 
-// The answer to a line that asks of patterns.
+// Returns the answer to a line about patterns.
 fn ask_of_patterns(alloc: Global, graph: &mut EGraph<Small>, line: &str) -> Result<String, Error> {
     if line == "counts" {
         return counts(alloc, graph);
@@ -84,7 +84,7 @@ fn ask_of_patterns(alloc: Global, graph: &mut EGraph<Small>, line: &str) -> Resu
     }
 }
 
-/// The answer to one of these lines, over a graph and the rules of its session.
+/// Returns the answer to a line about patterns or rules, over a graph and the rules of its session.
 pub fn answer(
     alloc: Global,
     graph: &mut EGraph<Small>,

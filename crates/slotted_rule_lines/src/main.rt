@@ -1,13 +1,16 @@
 //! The program `slotted_rule_lines`: sessions of patterns and rules in, answers out.
 //!
-//! Beside the lines that the program `slotted` answers there are these. `matches P` answers how many matches a pattern has, and `match K v: P` the term of
-//! the variable in the match of this number. `subst P` answers the canonical term of an instance of a pattern without variables. `counts` answers how many
-//! live classes, filed nodes and asserted equations there are.
+//! The lines of the program `slotted` are answered as there. `matches P` answers how many matches a pattern has. `match
+//! K v: P` answers the term of the variable in the match of this number. `subst P` answers the canonical term of an
+//! instance of a pattern without variables. `counts` answers how many live classes, filed e-nodes and asserted
+//! equations there are.
 //!
-//! `rule N: L => R` makes a rule, which the session keeps. Behind it may stand ` if free $x v`, the condition that the slot does not occur in the value of the
-//! variable, or ` if not free $x v`. `apply` searches with all rules of the session and applies each once, and answers whether the graph changed.
+//! `rule N: L => R` makes a rule, which the session keeps. Behind the rule may stand ` if free $x v`, the condition
+//! that the slot does not occur in the value of the variable, or ` if not free $x v`. `apply` searches with all rules
+//! of the session, applies each once, and answers whether the graph changed.
 //!
-//! A line `---` ends a session, and the next one has a graph of its own. A line that begins with `# ` is a title. Both are written as they stand.
+//! A line `---` ends a session, and the next one has a graph of its own. A line that begins with `# ` is a title. Both
+//! are written as they stand.
 #![tactic(auto)]
 
 mod asking;
@@ -24,12 +27,12 @@ use std::alloc::Global;
 use std::io;
 use std::io::{BufRead, BufReader, BufWriter, ErrorKind, Write};
 
-// Whether a line ends its session.
+// Returns whether a line ends its session.
 fn is_divider(line: &[u8]) -> bool {
     line.strip_suffix(b"\n").unwrap_or(line) == b"---".as_slice()
 }
 
-// Whether a line is the title of a session.
+// Returns whether a line is the title of a session.
 fn is_title(line: &[u8]) -> bool {
     line.starts_with(b"# ")
 }
@@ -52,7 +55,7 @@ fn ask<W: Write>(
     }
 }
 
-// Answers a line of the program that asks the graph. An empty one has no answer.
+// Answers a line of the program `slotted`. An empty line has no answer.
 fn answer_plainly<W: Write>(
     alloc: Global,
     graph: &mut EGraph<Small>,
@@ -97,7 +100,7 @@ fn answer_or_repeat<W: Write>(
     answer_or_ask(alloc, graph, rules, line, output)
 }
 
-// Answers lines up to the end of their session, and says whether a line `---` ended it.
+// Answers lines up to the end of their session. Returns whether a line `---` ended the session.
 fn answer_lines<R: BufRead, W: Write>(
     alloc: Global,
     graph: &mut EGraph<Small>,
@@ -119,7 +122,7 @@ fn answer_lines<R: BufRead, W: Write>(
     Err(io::Error::from(ErrorKind::FileTooLarge))
 }
 
-// Answers a session over a graph of its own, and says whether a line `---` ended it.
+// Answers a session over a graph of its own. Returns whether a line `---` ended the session.
 fn answer_next<R: BufRead, W: Write>(
     alloc: Global,
     input: &mut R,

@@ -1,6 +1,6 @@
 //! Lines that write rules, as texts.
 
-/// That a slot does not occur in the value of a variable, or that it does.
+/// The condition that a slot does not occur in the value of a variable, or that it does.
 #[derive(Drop)]
 pub struct Asked<'a> {
     pub is_free: bool,
@@ -17,7 +17,7 @@ pub struct RuleText<'a> {
     pub condition: Option<Asked<'a>>,
 }
 
-// The condition of a text behind ` if `.
+// Returns the condition of a text behind ` if `.
 fn read_condition(text: &str) -> Option<Asked> {
     let (is_free, asked) = match text.strip_prefix("not ") {
         Some(rest) => (false, rest),
@@ -31,7 +31,7 @@ fn read_condition(text: &str) -> Option<Asked> {
     })
 }
 
-// The rule of a name and of the text behind it.
+// Returns the parts of a rule, from its name and the text behind the colon.
 fn read_sides<'a>(name: &'a str, sides: &'a str) -> Option<RuleText<'a>> {
     let (left, rest) = sides.split_once(" => ")?;
     let (right, condition) = match rest.split_once(" if ") {
@@ -46,7 +46,7 @@ fn read_sides<'a>(name: &'a str, sides: &'a str) -> Option<RuleText<'a>> {
     })
 }
 
-/// Returns the parts of a line that writes a rule, or None if it is no such line.
+/// Returns the parts of a line that writes a rule, or `None` if the line writes none.
 pub fn read_rule(line: &str) -> Option<RuleText> {
     let (name, sides) = line.strip_prefix("rule ")?.split_once(": ")?;
     read_sides(name, sides)

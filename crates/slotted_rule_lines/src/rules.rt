@@ -10,7 +10,7 @@ use std::alloc::Global;
 /// A rule of a session. Conditions of all kinds are of one type.
 pub type Rule = Rewrite<Small, CondTree>;
 
-// The condition that is asked for.
+// Returns the condition of the text of one.
 fn condition(alloc: Global, graph: &mut EGraph<Small>, asked: &Asked) -> Result<CondTree, Error> {
     let slot = graph.named_slot(asked.slot)?;
     let free = CondTree::SlotFreeIn(slot_free_in(alloc, slot, asked.variable)?);
@@ -20,7 +20,7 @@ fn condition(alloc: Global, graph: &mut EGraph<Small>, asked: &Asked) -> Result<
     Ok(CondTree::Not(Box::new(alloc, free)?))
 }
 
-// The rule of the texts. Both sides are read before the condition, and then tested.
+// Returns the rule of the texts. Both sides are read before the condition, and then tested.
 fn read(alloc: Global, graph: &mut EGraph<Small>, text: &RuleText) -> Result<Rule, Error> {
     let left = graph.parse_pattern(text.left)?;
     let right = graph.parse_pattern(text.right)?;

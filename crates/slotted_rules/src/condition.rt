@@ -15,10 +15,10 @@ use slotted_rule_patterns::subst::value;
 use slotted_slots::{Error, Slot, SlotMap};
 use std::alloc::Global;
 
-/// A condition of a rule. It is asked just before a match is applied, in the graph as it is then.
+/// A condition of a rule. A condition is asked just before a match is applied, in the graph as it is then.
 ///
-/// The answer depends on the condition, the substitution and the graph alone. What the graph's analysis keeps of a class is part of the graph: a
-/// condition may read it by `analysis_data`, and [`DataPasses`](crate::DataPasses) is one that does.
+/// The answer depends on the condition, the substitution and the graph alone. The data of classes is part of the graph.
+/// A condition may read that by `analysis_data`, as [`DataPasses`](crate::DataPasses) does.
 pub trait Cond<L: Language, N: Analysis<L>>: Drop {
     ghost use Rattle.std.specs.Prelude.{Bool};
     ghost use Rattle.slotted_model_rules.specs.Conditions.{Values};

@@ -135,8 +135,8 @@ fn apply_found<L: Language, N: Analysis<L>, C: Cond<L, N>>(
 /// Unites the instances of both sides for each match in turn, if the condition holds just then, as `apply` of the rule
 /// does. Returns for how many matches the instances were not found equal before.
 ///
-/// What was applied before a refusal stays. No class is modified: what was made or has changed waits for
-/// `EGraph::modify`.
+/// What was applied before a refusal stays. No class is modified: new classes, and those whose data has changed, wait
+/// for `EGraph::modify`.
 pub fn apply_matches<L: Language, N: Analysis<L>, C: Cond<L, N>>(
     alloc: Global,
     graph: &mut EGraph<L, N>,
@@ -189,7 +189,7 @@ impl<L: Language, N: Analysis<L>, C: Cond<L, N>> RewriteT<L, N> for Rewrite<L, C
     ghost never_failed = { λ r. refused-other (C.refuses r.condition) (λ s g. C.never_failed r.condition s g) (tree_of L.form r.right) };
 
     /// Returns whether the rule can be handed to calls on the graph. The graph's table has to know the names of both
-    /// sides; no substitution may stand on the left side, and no variable on the right side alone. A rule with an
+    /// sides. No substitution may stand on the left side, and no variable on the right side alone. A rule with an
     /// e-node of 2^30 places or more is not valid.
     fn is_valid(&self, graph: &EGraph<L, N>) -> bool {
         graph.is_valid_pattern(&self.left)
@@ -218,7 +218,8 @@ impl<L: Language, N: Analysis<L>, C: Cond<L, N>> RewriteT<L, N> for Rewrite<L, C
     }
 
     /// Unites the instances of both sides for each match in turn, if the condition holds just then. The rule's name is
-    /// the text of each new equation. No class is modified: what was made or has changed waits for `EGraph::modify`.
+    /// the text of each new equation. No class is modified: new classes, and those whose data has changed, wait for
+    /// `EGraph::modify`.
     fn apply(&self, alloc: Global, found: Matches, graph: &mut EGraph<L, N>) -> Result<(), Error>
         requires valid { IsTrue graph.old.failed ⊎ CanBeSearched L.form graph.old.table self.now }
         requires found { IsTrue graph.old.failed ⊎ CanBeApplied (tree_of L.form self.now.left) found graph.old }

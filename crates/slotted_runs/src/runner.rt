@@ -113,8 +113,8 @@ impl<
         }
     }
 
-    /// Adds a term, as `EGraph::add_expr_quietly` does, and appends its id to the roots. Classes that are made are
-    /// modified at the end of the first turn. A refusal gives up the runner.
+    /// Adds a term, as `EGraph::add_expr_quietly` does, and appends its id to the roots. New classes are modified at
+    /// the end of the first turn. A refusal gives up the runner.
     pub fn with_expr(mut self, term: &RecExpr<L>) -> Result<Self, Error>
         requires { IsTrue self.egraph.failed ⊎ IsValidTerm self.egraph.table term.now }
         ensures ok { IfOk result (λ r. AddsRoot term.now (parts_of self) (parts_of r)) }

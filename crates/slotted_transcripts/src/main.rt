@@ -1,8 +1,13 @@
 //! The program `slotted_transcripts`: sessions in, answers out.
 //!
-//! A line `---` ends a session, and the next one has a graph and rules of its own. A line that begins with `# ` is a title. Both are
-//! written as they stand. A line that begins with `? ` is a question of `slotted_questions`, and each other line is answered as by the program
-//! `slotted`. After each line the plain find, without compressed paths, is compared with the graph's for each class, and a line tells if they differ.
+//! A line `---` ends a session, and the next one has a graph and rules of its own. A line that begins with `# ` is a
+//! title. Both are written as they stand.
+//!
+//! A line that begins with `? ` is a question of `slotted_questions`. Each other line is answered as by the program
+//! `slotted`.
+//!
+//! After each line the plain find, without compressed paths, is compared with the graph's for each class. A line tells
+//! if they differ.
 #![tactic(auto)]
 
 ghost use Rattle.std.specs.Prelude.{◌≡◌, ◌↔◌, IsTrue, OnOk, codes, nat_eq};
@@ -24,21 +29,21 @@ use std::alloc::Global;
 use std::io;
 use std::io::{BufRead, BufReader, BufWriter, ErrorKind, Write};
 
-// Whether a line ends its session.
+// Returns whether a line ends its session.
 fn is_divider(line: &[u8]) -> bool
     ensures { IsTrue result ↔ strip_last 10 line.now ≡ codes "---" }
 {
     line.strip_suffix(b"\n").unwrap_or(line) == b"---".as_slice()
 }
 
-// Whether a line is the title of a session.
+// Returns whether a line is the title of a session.
 fn is_title(line: &[u8]) -> bool
     ensures { result ≡ starts_with nat_eq line.now (codes "# ") }
 {
     line.starts_with(b"# ")
 }
 
-// Asks a question of a graph beside another one, and writes what is answered, or the name of the refusal.
+// Asks a question of a graph, or of the other one, and writes the answer or the name of the error.
 fn ask<L: Printable, W: Write>(
     alloc: Global,
     graph: &mut EGraph<L>,
@@ -59,12 +64,13 @@ fn ask<L: Printable, W: Write>(
     }
 }
 
-// Whether there were rebuilds, and they took no more turns than their bounds allow.
+// Returns whether there were rebuilds, and they took no more turns than their bounds allow.
 fn is_within(run: &Run) -> bool {
     run.rebuild_bound > 0 && run.rebuild_turns as u128 <= run.rebuild_bound
 }
 
-// Writes an answer. How many turns rebuilds took is open: of a run with rebuilds that kept their bound the numbers are not written.
+// Writes an answer. No clause says how many turns rebuilds take. So if rebuilds kept their bound, letters are written
+// for both numbers.
 fn write_told<W: Write>(told: &Told, output: &mut W) -> io::Result<()> {
     match told {
         Told::Ran(run) if is_within(run) => writeln!(output, "{run}\nturns T of B"),
@@ -72,7 +78,8 @@ fn write_told<W: Write>(told: &Told, output: &mut W) -> io::Result<()> {
     }
 }
 
-// Answers a line over a session. A question that changed the graph has left it fit for the rules. An empty line has no answer.
+// Answers a line over a session. A question that changed the graph has left it fit for the rules. An empty line has no
+// answer.
 fn answer_if_searchable<L: Printable, W: Write>(
     alloc: Global,
     session: &mut Session<L>,
@@ -131,7 +138,7 @@ fn answer_or_repeat<L: Printable, W: Write>(
     }
 }
 
-// Keeps what classes that died find, and returns whether the plain find agrees with the graph's.
+// Notes what classes that died lead to. Returns whether the plain find agrees with the graph's.
 fn follow<L: Printable>(
     alloc: Global,
     plain: &mut PlainFind,
@@ -155,7 +162,7 @@ fn compare_finds<L: Printable, W: Write>(
     }
 }
 
-// Answers lines over a session up to the end of their session, and says whether a line `---` ended it.
+// Answers lines over a session up to the end of their session. Returns whether a line `---` ended the session.
 fn answer_lines<L: Printable, R: BufRead, W: Write>(
     alloc: Global,
     session: &mut Session<L>,
@@ -205,7 +212,7 @@ fn answer_over<L: Printable, R: BufRead, W: Write>(
     }
 }
 
-// Answers a session over a graph of its own, and says whether a line `---` ended it.
+// Answers a session over a graph of its own. Returns whether a line `---` ended the session.
 fn answer_next<L: Printable, R: BufRead, W: Write>(
     alloc: Global,
     input: &mut R,

@@ -1,16 +1,18 @@
-//! The plain find, without path compression: what each class found when it died, followed step by step. It has to agree with the graph.
+//! The plain find, without path compression: the answer of `find` for each class when it died, followed step by step.
+//! The plain find has to agree with the graph's.
 use slotted_graph::EGraph;
 use slotted_languages::Language;
 use slotted_slots::{AppliedId, Error, Id, SlotMap};
 use std::alloc::Global;
 
-/// What each class found when it died, under its own slots. A live class has no entry.
+/// What `find` answered for each class when the class died, with the slots of the class as names. A live class has no
+/// entry.
 #[derive(Drop)]
 pub struct PlainFind {
     entries: Vec<Option<AppliedId>>,
 }
 
-// Returns what a class finds, under the slots that it has left.
+// Returns what `find` maps a class to, with the slots that are not redundant as names.
 fn found<L: Language>(graph: &EGraph<L>, id: Id) -> Result<Option<AppliedId>, Error> {
     if !graph.is_valid_id(id) {
         return Ok(None);
@@ -19,7 +21,7 @@ fn found<L: Language>(graph: &EGraph<L>, id: Id) -> Result<Option<AppliedId>, Er
     Ok(Some(graph.find_applied_id(&own)?))
 }
 
-// Returns the entry of a class: what it finds, if it is dead.
+// Returns the entry of a class: what `find` maps the class to, if the class is dead.
 fn entry_of<L: Language>(graph: &EGraph<L>, id: Id) -> Result<Option<AppliedId>, Error> {
     if graph.is_alive(id) {
         return Ok(None);
@@ -45,7 +47,7 @@ impl PlainFind {
         }
     }
 
-    // Keeps what a class finds, if it has died since its entry was looked at.
+    // Keeps what `find` maps a class to, if the class has died since its entry was read.
     fn keep<L: Language>(&mut self, graph: &EGraph<L>, i: usize) -> Result<(), Error> {
         if i >= self.entries.len() {
             self.entries.push(entry_of(graph, Id(i))?)?;
@@ -55,7 +57,7 @@ impl PlainFind {
         Ok(())
     }
 
-    /// Keeps what the classes find that have died. An entry that stands never changes.
+    /// Keeps what `find` maps dead classes to. An entry that stands never changes.
     pub fn follow<L: Language>(&mut self, graph: &EGraph<L>) -> Result<(), Error> {
         for i in 0..graph.progress().number_of_classes {
             self.keep(graph, i)?;
@@ -78,7 +80,7 @@ impl PlainFind {
         Ok(found)
     }
 
-    // Returns whether both finds answer the same for a class. What is no class of the graph has no answer.
+    // Returns whether both finds answer the same for a class. A number that is no class of the graph has no answer.
     fn agrees_on<L: Language>(
         &self,
         alloc: Global,

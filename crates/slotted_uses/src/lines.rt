@@ -1,4 +1,4 @@
-//! What a line asks, and what it does to a workspace.
+//! The lines of a workspace, and the answers to them.
 use crate::question::{Verdict, ask};
 use slotted_languages::Language;
 use slotted_rules::{CondTree, slot_free_in};
@@ -6,14 +6,14 @@ use slotted_terms::expr::printing::Printable;
 use slotted_workspace::{Limits, Workspace, WorkspaceError};
 use std::alloc::Global;
 
-/// What a line is answered with.
+/// The answer to a line.
 #[derive(Drop)]
 pub enum Answer {
     /// An assertion or a rule was kept.
     Kept,
     /// A question was answered.
     Judged(Verdict),
-    /// The line is none of these.
+    /// The line is neither an assertion, nor a rule, nor a question.
     Unknown,
 }
 
@@ -45,7 +45,7 @@ fn answer_question<L: Printable>(
     }
 }
 
-// The name in front of a colon, and the texts on both sides of a sign.
+// Returns the name in front of a colon, and the texts on both sides of a sign.
 fn parts<'a>(text: &'a str, sign: &str) -> Option<(&'a str, &'a str, &'a str)> {
     let (name, sides) = text.split_once(": ")?;
     let (left, right) = sides.split_once(sign)?;
@@ -65,7 +65,8 @@ fn assert_equation<L: Language>(
     Ok(Answer::Kept)
 }
 
-// Whether a variable stands in a rule. A condition on another one would be refused only when the rule is run.
+// Returns whether a variable stands in a rule. A condition on another variable would be refused only when the rule is
+// run.
 fn has_variable(rule: &str, variable: &str) -> bool {
     rule.split(['(', ')', ' '])
         .any(|word| word.strip_prefix('?') == Some(variable))

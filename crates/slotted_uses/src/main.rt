@@ -1,4 +1,5 @@
-//! The program `slotted_uses`: an equation checker for lambda terms. Assertions, rules and questions in, an answer to each out.
+//! The program `slotted_uses`: an equation checker for lambda terms. Assertions, rules and questions in, an answer to
+//! each out.
 #![tactic(auto)]
 
 mod lines;
@@ -10,7 +11,7 @@ use question::Verdict;
 use slotted_small::Small;
 use slotted_workspace::Workspace;
 
-// Writes a yes with the lines of its proof below it.
+// Writes a yes, with the lines of its proof below.
 fn show_proof(rt: &impl Print, proof: &str) -> Result<()> {
     println!(rt; "yes")?;
     for line in proof.lines() {

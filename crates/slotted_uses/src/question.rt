@@ -15,15 +15,15 @@ use slotted_workspace::{Handle, Limits, Workspace, WorkspaceError};
 pub enum Verdict {
     /// The terms are equal. The text is a proof.
     Yes(String),
-    /// The rules ended, and what is asserted then does not make the terms equal.
+    /// The run ended saturated, and what is asserted then does not make the terms equal.
     No,
-    /// A limit stopped the rules, and the terms are not equal so far.
+    /// A limit stopped the run, and the terms are not equal so far.
     Stopped,
     /// A symmetry is open, so that a no would say nothing.
     Open,
 }
 
-// Whether a run that stopped for this reason has ended saturated.
+// Returns whether a run that stopped for this reason has ended saturated.
 fn is_saturated(reason: &StopReason) -> bool
     ensures { result ≡ questions.is_saturated reason.now }
 {
@@ -73,9 +73,10 @@ pub fn judge<L: Printable>(
     Ok(Verdict::No)
 }
 
-/// Adds two terms, runs the rules within limits, and returns whether the terms are equal.
+/// Adds two terms, runs the rules within limits, and returns the verdict on the terms.
 ///
-/// A yes follows from what was asserted and from instances of the rules. A no says that it does not follow from those that were made, by a
+/// A yes follows from what was asserted and from instances of the rules. A no says that the equation does not follow
+/// from the instances that a saturated run made. Other instances of the rules may give more.
 /// run that ended saturated. Other instances of the rules may say more.
 pub fn ask<L: Printable>(
     workspace: &mut Workspace<L>,

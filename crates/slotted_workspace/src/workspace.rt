@@ -30,8 +30,8 @@ use std::marker::Model;
 
 /// A graph, its rules, and the terms that were added, each named by a handle.
 ///
-/// No call has a condition: a handle that is too large, or that belongs to a workspace with another number, is refused,
-/// and nothing changes. Give different numbers to workspaces that live at the same time: a handle of another workspace
+/// No call has a condition. A handle that is too large, or that belongs to a workspace with another number, is refused,
+/// and nothing changes. Give different numbers to workspaces that live at the same time. A handle of another workspace
 /// with the same number stands for this one's own term.
 #[derive(Drop)]
 pub struct Workspace<L: Language> {
@@ -159,8 +159,8 @@ impl<L: Language> Workspace<L> {
         Ok(unite_because(self.alloc, &mut self.graph, left, right, text)?)
     }
 
-    /// Keeps a rule, by its name and the texts of both sides. A run makes the right side equal to the left side
-    /// wherever the left side is found.
+    /// Keeps a rule, by its name and the texts of both sides. A run makes the right side equal to the left side for
+    /// each match of the left side.
     pub fn rule(&mut self, name: &str, left: &str, right: &str) -> Result<(), WorkspaceError>
         ensures ok { OnOk result
             (KeepsRule L.form L.read self.old self.new name.now left.now right.now CondTree.Always) }

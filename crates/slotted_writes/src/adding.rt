@@ -1,4 +1,4 @@
-//! Nodes and terms are added, and data is carried along.
+//! Adding e-nodes and terms, and carrying data along.
 ghost use Rattle.std.specs.Prelude.{◌≡◌, IfErr, IfOk, IsErrOf, OnOk};
 ghost use Rattle.slotted_slots.specs.Error.{IsShortage};
 ghost use Rattle.slotted_slots.specs.Table.{KnowsMore};
@@ -25,7 +25,8 @@ use slotted_slots::{AppliedId, Error, SlotTable};
 use slotted_terms::expr::RecExpr;
 use std::alloc::Global;
 
-/// Returns the class that was made with the node, whose children are filled first, or a new one, with the node's names put in.
+/// Returns the class that was made with the e-node, whose children are filled first, with the e-node's names put in. If
+/// there is none, adds a class.
 pub fn add_filled<L: Language, N: Analysis<L>>(
     store: &mut Store<L>,
     nodes: &mut Hashcons<L>,
@@ -58,7 +59,8 @@ pub fn add_filled<L: Language, N: Analysis<L>>(
     Ok(made)
 }
 
-/// Returns what the node is looked up as. Where it is not, a class is made of it, whose children are filled first.
+/// Returns what the e-node is looked up as. If there is no answer, adds a class of the e-node, whose children are
+/// filled first.
 pub fn add<L: Language, N: Analysis<L>>(
     store: &mut Store<L>,
     nodes: &mut Hashcons<L>,
@@ -90,7 +92,8 @@ pub fn add<L: Language, N: Analysis<L>>(
     Ok(id)
 }
 
-/// Returns what the term is looked up as, child by child. Classes are made of the nodes that are not.
+/// Returns what the term is looked up as, from its innermost e-nodes on. Adds a class for each e-node for which there
+/// is no answer.
 pub fn add_expr<L: Language, N: Analysis<L>>(
     store: &mut Store<L>,
     nodes: &mut Hashcons<L>,
@@ -120,7 +123,7 @@ pub fn add_expr<L: Language, N: Analysis<L>>(
     Ok(answer)
 }
 
-/// Returns the id of the term, whose nodes are added from below.
+/// Returns the id of the term. Its e-nodes are added from below, as `add_syn` of `slotted_operations` does.
 pub fn add_syn_expr<L: Language, N: Analysis<L>>(
     store: &mut Store<L>,
     nodes: &mut Hashcons<L>,

@@ -21,7 +21,7 @@ use slotted_slots::{Error, SlotTable};
 use slotted_terms::expr::RecExpr;
 use std::alloc::Global;
 
-/// Returns the proof that two terms, which are added first, are equal. There is none where their ids do not find alike.
+/// Returns the proof that two terms are equal, or `None` if their ids are not found equal. The terms are added first.
 pub fn explain<L: Language, N: Analysis<L>>(
     store: &mut Store<L>,
     nodes: &mut Hashcons<L>,

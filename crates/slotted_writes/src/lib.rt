@@ -1,6 +1,7 @@
-//! The writes of a graph, each followed by carrying data along: so the data of all classes is at rest again whenever one has ended.
+//! The writes of a graph, each followed by carrying data along. So no data is pending when a write has ended.
 //!
-//! Each has the clauses of the write of the same name without data, and says what the data has become.
+//! Each write has the clauses of the operation of the same name in `slotted_operations`, and says what the data has
+//! become.
 #![tactic(auto)]
 
 pub mod adding;

@@ -1,4 +1,4 @@
-//! Two ids are equal because the caller says so, and data is carried along.
+//! Union: two ids are equal because the caller says so. Data is carried along.
 ghost use Rattle.std.specs.Prelude.{◌≡◌, false, IfErr, IfOk, IsErrOf, OnOk};
 ghost use Rattle.slotted_slots.specs.Error.{IsShortage};
 ghost use Rattle.slotted_proofs.specs.Equations.{to_applied};
@@ -18,7 +18,7 @@ use slotted_operations::uniting;
 use slotted_slots::{AppliedId, Error};
 use std::alloc::Global;
 
-/// Two ids are equal, because the caller says so, with a text or without one. True if they did not find alike.
+/// Asserts that two ids are equal, with a text or without one. Returns true if they were not found equal before.
 pub fn union<L: Language, N: Analysis<L>>(
     store: &mut Store<L>,
     nodes: &mut Hashcons<L>,

@@ -1,5 +1,6 @@
-//! Adding nodes and terms without modifying classes, and looking up nodes: by canonical nodes, which keeps each term as it was given, or by what
-//! children find, which gives equal nodes one id.
+//! Adding e-nodes and terms without modifying classes, and looking up e-nodes.
+//!
+//! By canonical e-nodes, equal e-nodes get one id. By syntactic e-nodes, each term is kept as it was given.
 ghost use Rattle.std.specs.Prelude.{◌≡◌, ◌⊎◌, ◌↔◌, Some, option_map, IsErr, IsErrOf, IsSome, IsTrue, IfErr, IfOk, IfSome, OnOk};
 ghost use Rattle.slotted_slots.specs.Error.{IsShortage};
 ghost use Rattle.slotted_slots.specs.Table.{KnowsMore};
@@ -28,13 +29,15 @@ use slotted_terms::expr::RecExpr;
 use slotted_writes::adding;
 
 impl<L: Language, N: Analysis<L>> EGraph<L, N> {
-    /// Returns the id of a node: what the class of its filed node finds, with the node's names put in. Children may lack names for slots that unions
-    /// dropped. Nodes whose children find alike in turn have one id.
+    /// Returns the id of an e-node: what `find` answers for the class of the filed e-node, with the e-node's names put
+    /// in.
+    ///
+    /// Children may omit names of redundant slots. E-nodes whose children are found equal in turn have one id.
     pub fn lookup(&self, node: &L) -> Result<Option<AppliedId>, Error>
         requires { IsTrue self.now.failed ⊎ IsValidNode self.now (L.form node.now) }
         ensures id { IfOk result (λ o. option_map to_applied o ≡ look_up self.now (L.form node.now)) }
 
-        // The answer is what it finds itself, and equal to the node by what was asserted.
+        // The answer is a canonical id, equal to the e-node by what was asserted.
         ensures found { IfOk result (λ o. IfSome o (λ a. IsFound self.now (to_applied a))) }
         ensures equal { IfOk result
             (λ o. IfSome o (λ a. IsEqualToNode self.now.image (to_applied a) (L.form node.now))) }
@@ -48,29 +51,30 @@ impl<L: Language, N: Analysis<L>> EGraph<L, N> {
         look_up(&self.store, &self.nodes, self.alloc, node)
     }
 
-    /// Adds a node as `add` does, and modifies no class. What was made or has changed waits.
+    /// Adds an e-node as `add` does, and modifies no class. New classes, and those whose data has changed, wait to be
+    /// modified.
     pub fn add_quietly(&mut self, node: &L) -> Result<AppliedId, Error>
         requires { IsTrue self.old.failed ⊎ IsValidNode self.old (L.form node.now) }
 
-        // The answer is what a look-up answers from now on, what it finds itself, and equal to the node by what was asserted.
+        // The answer is a canonical id, equal to the e-node by what was asserted. From now on a look-up answers it.
         ensures id { IfOk result (λ a. look_up self.new (L.form node.now) ≡ Some (to_applied a)) }
         ensures found { IfOk result (λ a. IsFound self.new (to_applied a)) }
         ensures equal { IfOk result (λ a. IsEqualToNode self.new.image (to_applied a) (L.form node.now)) }
 
-        // A class is made only where there was no answer, and no other class is made. What was there stays: ids find what they found, and what
-        // was looked up is looked up as before.
+        // A class is added only if there was no answer, and no other class is added. What was there stays: what `find`
+        // maps ids to, and what was looked up.
         ensures kept { OnOk result (IsSome (look_up self.old (L.form node.now)) → IsOneGraph self.old self.new) }
         ensures made { IfOk result (λ a. MakesClassFor self.old self.new (L.form node.now) (to_applied a)) }
         ensures answers { OnOk result (KeepsLookUps self.old self.new) }
         ensures extends { OnOk result (Extends self.old.image.canonical self.new.image.canonical) }
         ensures adds { OnOk result (AddsClasses self.old.image self.new.image) }
 
-        // Where a class is made, fresh slots are made for its names, and for those that children lack.
+        // If a class is added, fresh slots are made for its names, and for those that children omit.
         ensures more { KnowsMore self.old.table self.new.table }
         ensures takes { MakesAtMost (slots_needed self.old.image (L.form node.now)) self.old.table self.new.table }
         ensures full { IsErrOf result Error.OutOfSlots → RunsOutForUnknown self.old self.new (L.form node.now) }
 
-        // Data only went down, and what was made or has changed waits to be modified.
+        // Data is only lowered. New classes, and those whose data has changed, wait to be modified.
         ensures carries { OnOk result (CarriesData N.codes N.meaning self.old self.new) }
 
         // A failed graph stays as it is.
@@ -97,11 +101,12 @@ impl<L: Language, N: Analysis<L>> EGraph<L, N> {
         Ok(id)
     }
 
-    /// Adds a node as `add_syn` does, and modifies no class. What was made or has changed waits.
+    /// Adds an e-node as `add_syn` does, and modifies no class. New classes, and those whose data has changed, wait to
+    /// be modified.
     pub fn add_syn_quietly(&mut self, node: &L) -> Result<AppliedId, Error>
         requires { IsTrue self.old.failed ⊎ IsValidNode self.old (L.form node.now) }
 
-        // The answer is valid, has all names, and stands for the node over what its children stand for.
+        // The answer is a full id, and stands for the e-node over what its children stand for.
         ensures valid { IfOk result (λ a. IsFullId self.new (to_applied a)) }
         ensures syn { IfOk result (λ a. AddsSyn self.old self.new (L.form node.now) (to_applied a)) }
 
@@ -109,14 +114,14 @@ impl<L: Language, N: Analysis<L>> EGraph<L, N> {
         ensures extends { OnOk result (Extends self.old.image.canonical self.new.image.canonical) }
         ensures adds { OnOk result (AddsClasses self.old.image self.new.image) }
 
-        // Where a class is made, fresh slots are made for its names, and for those that children lack.
+        // If a class is added, fresh slots are made for its names, and for those that children omit.
         ensures more { KnowsMore self.old.table self.new.table }
         ensures takes { MakesAtMost (slots_needed self.old.image (L.form node.now)) self.old.table self.new.table }
         ensures full { IsErrOf result Error.OutOfSlots
             → RunsOutForFilled self.old.image (L.form node.now) self.old.table self.new.table }
         ensures unknown { IsErrOf result Error.OutOfSlots → IsUnknownIfFull self.old.image.canonical (L.form node.now) }
 
-        // Data only went down, and what was made or has changed waits to be modified.
+        // Data is only lowered. New classes, and those whose data has changed, wait to be modified.
         ensures carries { OnOk result (CarriesData N.codes N.meaning self.old self.new) }
 
         // A failed graph stays as it is.
@@ -143,17 +148,20 @@ impl<L: Language, N: Analysis<L>> EGraph<L, N> {
         Ok(made)
     }
 
-    /// Adds a term as `add_expr` does, and modifies no class. What was made or has changed waits.
+    /// Adds a term as `add_expr` does, and modifies no class. New classes, and those whose data has changed, wait to be
+    /// modified.
     pub fn add_expr_quietly(&mut self, term: &RecExpr<L>) -> Result<AppliedId, Error>
         requires { IsTrue self.old.failed ⊎ IsValidTerm self.old.table term.now }
 
-        // The answer is what a look-up of the term answers from now on, what it finds itself, and equal to the term by what was asserted.
+        // The answer is a canonical id, equal to the term by what was asserted. From now on a look-up of the term
+        // answers it.
         ensures id { IfOk result (λ a. look_up_term self.new term.now ≡ Some (to_applied a)) }
         ensures found { IfOk result (λ a. IsFound self.new (to_applied a)) }
         ensures equal { IfOk result (λ a. IsEqualToTerm self.new.image (to_applied a) term.now) }
 
-        // Where the term was looked up, nothing changes. Else its nodes are added from below, and each class that is made is
-        // what a subterm is looked up as from now on. Ids find what they found, and what was looked up is looked up as before.
+        // If a look-up of the term has an answer, nothing changes. If not, the term's e-nodes are added from below. A
+        // look-up of some subterm answers each new class. What `find` maps ids to stays, and so does what was looked
+        // up.
         ensures kept { OnOk result (IsSome (look_up_term self.old term.now) → IsOneGraph self.old self.new) }
         ensures nodes { OnOk result (AddsNodes term.now self.old (term_nodes term.now) self.new) }
         ensures filed { OnOk result (FilesOnlyLookedUp self.old self.new term.now) }
@@ -161,12 +169,12 @@ impl<L: Language, N: Analysis<L>> EGraph<L, N> {
         ensures extends { OnOk result (Extends self.old.image.canonical self.new.image.canonical) }
         ensures adds { OnOk result (AddsClasses self.old.image self.new.image) }
 
-        // Where classes are made, fresh slots are made for their names, and for those that children lack.
+        // If classes are added, fresh slots are made for their names, and for those that children omit.
         ensures more { KnowsMore self.old.table self.new.table }
         ensures takes { IsTrue self.old.failed ⊎ TakesForTerm term.now self.old self.new.table }
         ensures full { IsErrOf result Error.OutOfSlots → LacksForTerm term.now self.old self.new.table }
 
-        // Data only went down, and what was made or has changed waits to be modified.
+        // Data is only lowered. New classes, and those whose data has changed, wait to be modified.
         ensures carries { OnOk result (CarriesData N.codes N.meaning self.old self.new) }
 
         // A failed graph stays as it is.
@@ -193,30 +201,31 @@ impl<L: Language, N: Analysis<L>> EGraph<L, N> {
         Ok(answer)
     }
 
-    /// Adds a term as `add_syn_expr` does, and modifies no class. What was made or has changed waits.
+    /// Adds a term as `add_syn_expr` does, and modifies no class. New classes, and those whose data has changed, wait
+    /// to be modified.
     pub fn add_syn_expr_quietly(&mut self, term: &RecExpr<L>) -> Result<AppliedId, Error>
         requires { IsTrue self.old.failed ⊎ IsValidTerm self.old.table term.now }
 
-        // The answer is valid, stands for the term, and is what a look-up of the term answers from now on.
+        // The answer is valid, and stands for the term. From now on a look-up of the term answers it.
         ensures valid { IfOk result (λ a. IsFullId self.new (to_applied a)) }
         ensures term { IfOk result (λ a. term_of self.new.image.canonical (to_applied a) ≡ nameless term.now) }
         ensures found { IfOk result (λ a. id_of_term self.new term.now ≡ Some (to_applied a)) }
 
-        // Where the term has an id, nothing changes. Each class that is made is what a subterm is looked up as from now
-        // on, and what was there stays.
+        // If the term has an id, nothing changes. A look-up of some subterm answers each new class, and what was there
+        // stays.
         ensures kept { OnOk result (IsSome (id_of_term self.old term.now) → IsOneGraph self.old self.new) }
         ensures filed { OnOk result (FilesOnlySubterms self.old self.new term.now) }
         ensures extends { OnOk result (Extends self.old.image.canonical self.new.image.canonical) }
         ensures adds { OnOk result (AddsClasses self.old.image self.new.image) }
 
-        // Where classes are made, fresh slots are made for their names.
+        // If classes are added, fresh slots are made for their names.
         ensures more { KnowsMore self.old.table self.new.table }
         ensures takes { MakesAtMost (term_slots term.now) self.old.table self.new.table }
         ensures full { IsErrOf result Error.OutOfSlots
             → CanRunOutForTerm self.old.image term.now self.old.table self.new.table }
         ensures unknown { IsErrOf result Error.OutOfSlots → IsUnknownTerm self.old.image term.now }
 
-        // Data only went down, and what was made or has changed waits to be modified.
+        // Data is only lowered. New classes, and those whose data has changed, wait to be modified.
         ensures carries { OnOk result (CarriesData N.codes N.meaning self.old self.new) }
 
         // A failed graph stays as it is.

@@ -14,7 +14,7 @@ use slotted_languages::Language;
 use slotted_slots::{Error, Id};
 use std::alloc::Global;
 
-// Classes by their numbers.
+// Returns the ids of classes by their numbers.
 fn ids_of(alloc: Global, classes: &[usize]) -> Result<Vec<Id>, Error>
     ensures ok { IfOk result (λ v. class_numbers v.items ≡ classes.now) }
     ensures err { IfErr result IsOutOfMemory }
@@ -34,22 +34,24 @@ impl<L: Language, N: Analysis<L>> EGraph<L, N> {
         &self.analysis
     }
 
-    /// Returns the data of the class that a class finds: the merge of what its nodes make, and of what was merged into it. Takes no memory.
+    /// Returns the data of the class that `find` maps a class to: the merge of what its e-nodes make, and of what was
+    /// merged into it. Takes no memory.
     pub fn analysis_data(&self, id: Id) -> &N::Data
         requires { HasClass self.now id.0 }
         ensures value { HasData N.codes self.now id.0 result.now }
 
-        // What any filed node makes of the data of its children is absorbed by the data of its class.
+        // What any filed e-node makes of the data of its children is absorbed by the data of its class.
         ensures rests { AbsorbsMade N.codes N.meaning self.now }
     {
         self.data.value(self.store.find_class(id.0))
     }
 
-    /// Merges a value as `merge_analysis_data` does, and modifies no class. Each class whose data has changed waits.
+    /// Merges a value as `merge_analysis_data` does, and modifies no class. Each class whose data has changed waits to
+    /// be modified.
     pub fn merge_data_quietly(&mut self, id: Id, value: &N::Data) -> Result<(), Error>
         requires { IsTrue self.old.failed ⊎ (id.0 < length self.old.image.canonical) }
 
-        // Data only goes down, and merging the value again changes nothing.
+        // Data is only lowered, and merging the value again changes nothing.
         ensures merges { OnOk result (MergesData N.codes N.meaning self.old self.new id.0 value.now) }
         ensures same { OnOk result (HasSameClasses self.old self.new) }
 
@@ -76,8 +78,8 @@ impl<L: Language, N: Analysis<L>> EGraph<L, N> {
         Ok(())
     }
 
-    /// Returns how many live classes wait to be modified: those that were made, or whose data has changed. None waits if the analysis never
-    /// modifies classes. Takes no memory.
+    /// Returns how many live classes wait to be modified: those that were added, or whose data has changed. The answer
+    /// is 0 if the analysis never modifies classes. Takes no memory.
     pub fn modify_pending(&self) -> usize
         ensures waits { IsTrue N.modifies → IsTrue self.now.failed ⊎ CountsPending N.codes self.now result }
         ensures none { N.modifies ≡ false → result ≡ 0 }
@@ -88,7 +90,7 @@ impl<L: Language, N: Analysis<L>> EGraph<L, N> {
         self.pending_classes()
     }
 
-    /// Returns how many live classes were made, or have other data, since `take_pending`. Takes no memory.
+    /// Returns how many live classes were added, or have other data, since `take_pending`. Takes no memory.
     pub fn pending_classes(&self) -> usize
         ensures { IsTrue self.now.failed ⊎ CountsPending N.codes self.now result }
     {
@@ -98,7 +100,7 @@ impl<L: Language, N: Analysis<L>> EGraph<L, N> {
         pending_count(&self.store, &self.data)
     }
 
-    /// Returns the live classes that wait to be modified, by ascending id. None waits from now on.
+    /// Returns the live classes that wait to be modified, by ascending id. No class waits from then on.
     pub fn take_pending(&mut self) -> Result<Vec<Id>, Error>
         ensures taken { IfOk result (λ v. TakesPending N.codes self.old self.new (class_numbers v.items)) }
         ensures same { OnOk result (HasSameClasses self.old self.new) }
@@ -118,23 +120,25 @@ impl<L: Language, N: Analysis<L>> EGraph<L, N> {
         Ok(ids)
     }
 
-    /// Returns the number of rounds of edits that a write makes at its end, at most. Takes no memory.
+    /// Returns the limit of rounds of edits that a write makes at its end. Takes no memory.
     pub fn modify_rounds(&self) -> usize
         ensures { HasRounds N.codes self.now result }
     {
         self.rounds
     }
 
-    /// Sets the number of rounds of edits that a write makes at its end, at most. A graph begins with 16. Takes no memory.
+    /// Sets the limit of rounds of edits that a write makes at its end. A new graph has the limit 16. Takes no memory.
     pub fn set_modify_rounds(&mut self, rounds: usize)
         ensures { SetsRounds N.codes self.old self.new rounds }
     {
         self.rounds = rounds;
     }
 
-    /// Modifies the classes that wait, in rounds, until none waits or the limit of rounds is reached. Returns whether anything was asked.
+    /// Modifies the classes that wait, in rounds, until none waits or the limit of rounds is reached. Returns whether
+    /// the analysis asked for anything.
     ///
-    /// Each write of the graph ends with this call, except those that end in `_quietly`. Nothing is done if the analysis never modifies classes.
+    /// Each write of the graph ends with this call, except those that end in `_quietly`. If the analysis never modifies
+    /// classes, nothing is done.
     pub fn modify(&mut self) -> Result<bool, Error>
         ensures modified { IfOk result (IsModified N.codes N.meaning N.may_ask N.modifies self.old self.new) }
 

@@ -1,4 +1,4 @@
-//! What building an instance of a pattern asks of the graph.
+//! Ids and e-nodes from which an instance of a pattern is built.
 ghost use Rattle.std.specs.Prelude.{All, ◌≡◌, ◌⊎◌, ◌↔◌, IsTrue, IfOk, IfErr, IsErrOf};
 ghost use Rattle.slotted_slots.specs.Error.{IsShortage};
 ghost use Rattle.slotted_model.specs.Classes.{IsFull};
@@ -17,7 +17,7 @@ use slotted_operations::syn;
 use slotted_slots::{AppliedId, Error};
 
 impl<L: Language, N: Analysis<L>> EGraph<L, N> {
-    /// Returns the id with a fresh slot for each name that it lacks. An id that lacks none is answered as it is.
+    /// Returns the id with a fresh slot for each name that it omits. A full id is returned as it is.
     pub fn full_id(&mut self, a: &AppliedId) -> Result<AppliedId, Error>
         requires { IsTrue self.old.failed ⊎ IsValidId self.old (to_applied a.now) }
         ensures id { IfOk result (λ b. IsFullId self.new (to_applied b)) }
@@ -26,7 +26,7 @@ impl<L: Language, N: Analysis<L>> EGraph<L, N> {
         ensures same { IfOk result
             (λ b. IsFull self.old.image.canonical (to_applied a.now) → to_applied b ≡ to_applied a.now) }
 
-        // Only fresh slots are made, one for each name that the id lacks, and a refusal does not fail the graph.
+        // Only fresh slots are made, one for each name that the id omits. An error does not fail the graph.
         ensures takes { OnlyTakesSlots self.old self.new }
         ensures count { MakesAtMost (names_lacking self.old.image.canonical (to_applied a.now)) self.old.table self.new.table }
         ensures stays { IsTrue self.old.failed → self.new ≡ self.old }
@@ -42,8 +42,8 @@ impl<L: Language, N: Analysis<L>> EGraph<L, N> {
         fill_id(&self.store, self.alloc, &mut self.table, a)
     }
 
-    /// Returns the canonical node of an id that has all names, with a fresh slot for each binder. So no binder has the name of a slot that was known, and
-    /// what is put below one is not captured.
+    /// Returns the syntactic e-node of a full id, with a fresh slot for each binder. So no binder has the name of a
+    /// slot that was known, and what is put below a binder is not captured.
     pub fn fresh_node(&mut self, a: &AppliedId) -> Result<L, Error>
         requires { IsTrue self.old.failed ⊎ IsFullId self.old (to_applied a.now) }
         ensures node { IfOk result (λ n. IsNodeOf self.old.image.canonical (to_applied a.now) (L.form n)) }
@@ -51,7 +51,7 @@ impl<L: Language, N: Analysis<L>> EGraph<L, N> {
         ensures valid { IfOk result (λ n. IsValidNode self.new (L.form n)) }
         ensures children { IfOk result (λ n. All (IsFull self.new.image.canonical) (child_ids (L.form n))) }
 
-        // Only fresh slots are made, two at most for each binder, and a refusal does not fail the graph.
+        // Only fresh slots are made, at most two for each binder. An error does not fail the graph.
         ensures takes { OnlyTakesSlots self.old self.new }
         ensures count { MakesForFreshNode self.old self.new (to_applied a.now) }
         ensures stays { IsTrue self.old.failed → self.new ≡ self.old }

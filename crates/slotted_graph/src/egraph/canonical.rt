@@ -1,4 +1,4 @@
-//! Canonical nodes and terms, and the entries of the proof list, as the graph gives them out.
+//! Syntactic e-nodes, canonical terms, and the entries of the proof list.
 ghost use Rattle.std.specs.Prelude.{All, ◌≡◌, ◌⊎◌, ◌↔◌, ◌<◌, length, IsTrue, IfOk, IfErr, IsErrOf};
 ghost use Rattle.slotted_slots.specs.Error.{IsShortage};
 ghost use Rattle.slotted_terms.specs.Valid.{IsValidTerm};
@@ -23,8 +23,8 @@ use slotted_slots::{AppliedId, Error};
 use slotted_terms::expr::RecExpr;
 
 impl<L: Language, N: Analysis<L>> EGraph<L, N> {
-    /// Returns the node that the class of an id was made with, with the id's names put in. For a slot that it has no name for, since a union
-    /// dropped it, stands a fresh one. Binders that would meet one of these get fresh names.
+    /// Returns the syntactic e-node of an id, with the id's names put in. For each name that the id omits, a fresh one
+    /// is put in. Binders that would meet one of these get fresh names.
     pub fn get_syn_node(&mut self, a: &AppliedId) -> Result<L, Error>
         requires { IsTrue self.old.failed ⊎ IsValidId self.old (to_applied a.now) }
         ensures filled { IfOk result (λ n. IsNodeOfFilling self.old self.new (to_applied a.now) (L.form n)) }
@@ -32,7 +32,8 @@ impl<L: Language, N: Analysis<L>> EGraph<L, N> {
         ensures valid { IfOk result (λ n. IsValidNode self.new (L.form n)) }
         ensures children { IfOk result (λ n. All (IsFull self.new.image.canonical) (child_ids (L.form n))) }
 
-        // Only fresh slots are made, no more than the id lacks names and the node has binders, and a refusal does not fail the graph.
+        // Only fresh slots are made, no more than the id omits names and the e-node has binders. An error does not fail
+        // the graph.
         ensures takes { OnlyTakesSlots self.old self.new }
         ensures count { MakesForNodeOf self.old self.new (to_applied a.now) }
         ensures stays { IsTrue self.old.failed → self.new ≡ self.old }
@@ -47,16 +48,17 @@ impl<L: Language, N: Analysis<L>> EGraph<L, N> {
         syn::syn_node_of(&self.store, self.alloc, &mut self.table, a)
     }
 
-    /// Returns the term that an id stands for, the canonical one: the node that its class was made with, over the terms of the node's
-    /// children. For a slot that the id has no name for, since a union dropped it, stands a fresh one. The child ids inside its nodes
-    /// are null.
+    /// Returns the canonical term of an id: the syntactic e-node of its class, over the terms of the e-node's children.
+    ///
+    /// For each name that the id omits, a fresh one is put in. The child ids inside the term's e-nodes are null.
     pub fn get_syn_expr(&mut self, a: &AppliedId) -> Result<RecExpr<L>, Error>
         requires { IsTrue self.old.failed ⊎ IsValidId self.old (to_applied a.now) }
         ensures filled { IfOk result (λ t. IsTermOfFilling self.old self.new (to_applied a.now) t) }
         ensures term { IfOk result (λ t. IsTermWhereFull self.old.image.canonical (to_applied a.now) t) }
         ensures valid { IfOk result (λ t. IsValidTerm self.new.table t) }
 
-        // Only fresh slots are made, no more than the id lacks names and the term has binders, and a refusal does not fail the graph.
+        // Only fresh slots are made, no more than the id omits names and the term has binders. An error does not fail
+        // the graph.
         ensures takes { OnlyTakesSlots self.old self.new }
         ensures count { MakesForTermOf self.old self.new (to_applied a.now) }
         ensures stays { IsTrue self.old.failed → self.new ≡ self.old }
@@ -76,12 +78,12 @@ impl<L: Language, N: Analysis<L>> EGraph<L, N> {
         ensures list { result.now ≡ self.now.image.stored }
         ensures entries { self.now.image.entries ≡ entries_of self.now.image.stored }
 
-        // What each graph that has not failed keeps: steps prove their equations over earlier entries, and equations are over all
+        // In each graph that has not failed, steps prove their equations over earlier entries. Equations are over all
         // slots of their classes.
         ensures proved { IsTrue self.now.failed ⊎ IsProved self.now.image.canonical self.now.image.stored }
         ensures earlier { IsTrue self.now.failed ⊎ PartsAreEarlier self.now.image.stored }
 
-        // So what an entry says follows from the explicit leaves of its tree.
+        // What an entry says follows from the asserted leaves of its tree.
         ensures leaves { IsTrue self.now.failed ⊎ EntriesFollow self.now.image }
     {
         self.store.proofs()

@@ -1,4 +1,4 @@
-//! What a graph holds, as a text.
+//! The text of what a graph holds.
 ghost use Rattle.std.specs.Prelude.{◌≡◌, ◌⊎◌, ◌↔◌, string_bytes, IsTrue, OnOk, OnErr, IfErr, IsErrOf};
 ghost use Rattle.slotted_slots.specs.Error.{IsShortage};
 ghost use Rattle.slotted_operations.specs.Graph.{MakesAtMost, OnlyTakesSlots};
@@ -11,14 +11,17 @@ use slotted_reports::dumping::append_live;
 use slotted_slots::Error;
 
 impl<L: Language, N: Analysis<L>> EGraph<L, N> {
-    /// Appends a line feed, then for each live class by its number a line feed, its line with its slots, `>> ` and the node that it was made
-    /// with, and for each filed node by shape ` - ` and the node with the class that it was made with; and a line feed.
+    /// Appends the live classes, by their numbers, and the e-nodes that are filed for them, by their shapes.
+    ///
+    /// The text begins and ends with a line feed, and each class begins with another one. Its first line has its slots,
+    /// and its second one `>> ` and its syntactic e-node. Each line after that has ` - `, a filed e-node, and the
+    /// source of that e-node.
     pub fn dump(&mut self, out: &mut String) -> Result<(), Error>
-        // What stood in the text stays before it; it stays as it is where the call is refused.
+        // What stood in the text stays before what is appended. If the call is refused, the text stays as it is.
         ensures appends { OnOk result (IsAppended (string_bytes out.old) (string_bytes out.new)) }
         ensures unchanged { OnErr result (string_bytes out.new ≡ string_bytes out.old) }
 
-        // Only fresh slots are made, two at most for each place of all filed nodes, and a refusal does not fail the graph.
+        // Only fresh slots are made, at most two for each place of all filed e-nodes. An error does not fail the graph.
         ensures takes { OnlyTakesSlots self.old self.new }
         ensures count { MakesAtMost (slots_for_dump self.old) self.old.table self.new.table }
         ensures stays { IsTrue self.old.failed → self.new ≡ self.old }

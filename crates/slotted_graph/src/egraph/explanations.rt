@@ -17,7 +17,8 @@ use slotted_terms::expr::RecExpr;
 use slotted_writes::explaining;
 
 impl<L: Language, N: Analysis<L>> EGraph<L, N> {
-    /// Explains as `explain_equivalence` does, and modifies no class. What was made or has changed waits.
+    /// Explains as `explain_equivalence` does, and modifies no class. New classes, and those whose data has changed,
+    /// wait to be modified.
     pub fn explain_quietly(
         &mut self,
         left: &RecExpr<L>,
@@ -26,14 +27,16 @@ impl<L: Language, N: Analysis<L>> EGraph<L, N> {
         requires left { IsTrue self.old.failed ⊎ IsValidTerm self.old.table left.now }
         requires right { IsTrue self.old.failed ⊎ IsValidTerm self.old.table right.now }
 
-        // Each yes is explained, and `NotEqual` is answered exactly where the ids of the terms do not find alike.
+        // Terms that are equal by `eq` are explained. The answer is `NotEqual` if and only if the ids of the terms are
+        // not found equal.
         ensures explains { IfOk result (Explains self.new.image left.now right.now) }
         ensures not_equal { IsErrOf result Error.NotEqual → FindsApart self.new.image left.now right.now }
 
-        // Nothing is asserted, what found alike still does, and what was there stays. `NotEqual` does not fail the graph.
+        // Nothing is asserted, and what was there stays. Ids that were found equal still are. `NotEqual` does not fail
+        // the graph.
         ensures adds { IsTrue self.new.failed ⊎ AddsTerms self.old.image self.new.image }
 
-        // Each class that is made is what a subterm is looked up as from now on, and where both terms have ids there is none.
+        // A look-up of some subterm answers each new class. If both terms have ids, no class is added.
         ensures filed { IsTrue self.new.failed ⊎ FilesOnlyTerms self.old self.new left.now right.now }
         ensures kept { IsTrue self.new.failed ⊎ KeepsKnown self.old self.new left.now right.now }
         ensures more { KnowsMore self.old.table self.new.table }
@@ -41,7 +44,7 @@ impl<L: Language, N: Analysis<L>> EGraph<L, N> {
         ensures full { IsErrOf result Error.OutOfSlots
             → RunsOutForTerms self.old.image left.now right.now self.old.table self.new.table }
 
-        // Data only went down, and what was made or has changed waits to be modified.
+        // Data is only lowered. New classes, and those whose data has changed, wait to be modified.
         ensures carries { IsTrue self.new.failed ⊎ CarriesData N.codes N.meaning self.old self.new }
 
         ensures stays { IsTrue self.old.failed → self.new ≡ self.old }

@@ -20,7 +20,8 @@ use slotted_slots::{AppliedId, Error};
 use slotted_terms::expr::RecExpr;
 
 impl<L: Language, N: Analysis<L>> EGraph<L, N> {
-    /// Returns a filed node of least cost for each class that finds itself. It takes time for each filed node once, and for a turn of a heap.
+    /// Returns a filed e-node of least cost for each live class. Takes time for each filed e-node once, and for a turn
+    /// of a heap.
     pub fn least_terms<F: CostFunction<L>>(
         &self,
         costs: &F,
@@ -29,7 +30,8 @@ impl<L: Language, N: Analysis<L>> EGraph<L, N> {
             (costs_by F.Cost.cmp (F.node_cost costs.now)) t.entries.items) }
         ensures each { IfOk result (λ t. HasEachLiveClass self.now t.entries.items) }
 
-        // Of several filed nodes that cost the least, over children that all cost less, it is the first by the order of the language.
+        // Of several e-nodes of least cost, over children that all cost less, the first one by the order of the
+        // language is chosen.
         ensures chosen { IfOk result (λ t. AreChosenOf L.form L.cmp self.now
             (costs_by F.Cost.cmp (F.node_cost costs.now)) t.entries.items) }
 
@@ -42,8 +44,10 @@ impl<L: Language, N: Analysis<L>> EGraph<L, N> {
         terms::least_terms(&self.store, &self.nodes, self.alloc, costs)
     }
 
-    /// Returns the term that such nodes make of what an id finds. For a slot that the id has no name for, or that unions dropped, stands a fresh
-    /// name, and binders are fresh. If the nodes are those of an older graph, some term is answered.
+    /// Returns the term that the chosen e-nodes make for an id.
+    ///
+    /// For each slot that the id has no name for, or that is redundant, a fresh name is put in. Binders are fresh. If
+    /// the chosen e-nodes are those of an older graph, some term is returned.
     pub fn least_term<C: Drop>(
         &mut self,
         terms: &LeastTerms<L, C>,
@@ -54,10 +58,11 @@ impl<L: Language, N: Analysis<L>> EGraph<L, N> {
         ensures made { IfOk result (IsMadeOf L.form self.old terms.now.entries.items (to_applied a.now)) }
         ensures valid { IfOk result (λ t. IsValidTerm self.new.table t) }
 
-        // Each name that stands in the term is one of the id's, or was unknown, and so was each binder.
+        // Each name in the term is one of the id's, or was unknown. Each binder was unknown.
         ensures fresh { IfOk result (IsFreshTerm self.old.table (values a.now.m)) }
 
-        // Only fresh slots are made, two at most for each place of the term's nodes, and a refusal does not fail the graph.
+        // Only fresh slots are made, at most two for each place of the term's e-nodes. An error does not fail the
+        // graph.
         ensures takes { OnlyTakesSlots self.old self.new }
         ensures count { MakesForExtracted L.form terms.now.entries.items (to_applied a.now) self.old self.new }
         ensures stays { IsTrue self.old.failed → self.new ≡ self.old }

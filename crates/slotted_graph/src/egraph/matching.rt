@@ -1,4 +1,4 @@
-//! Finding patterns in the graph.
+//! Searching the graph for patterns.
 ghost use Rattle.std.specs.Prelude.{◌≡◌, ◌⊎◌, ◌↔◌, [], List, Some, Contains, IsSome, IsTrue, IfOk, IfErr, IsErrOf, false, true};
 ghost use Rattle.slotted_slots.specs.Error.{IsShortage};
 ghost use Rattle.slotted_proofs.specs.Equations.{to_applied};
@@ -24,15 +24,17 @@ use slotted_rule_patterns::pattern::{has_substitution, is_whole};
 use slotted_slots::{AppliedId, Error};
 
 impl<L: Language, N: Analysis<L>> EGraph<L, N> {
-    /// Returns what is found for a pattern at the live classes, one class after another. Each answer has an id for each variable.
+    /// Returns the matches of a pattern at the live classes, one class after another. Each match has an id for each
+    /// variable.
     ///
-    /// A name of such an id that stands for no slot of the pattern is a fresh slot, which all ids of the answer share. A pattern with a wrong number of
-    /// child patterns at some node is found nowhere. The first search after a change of classes or filed nodes takes time for each filed node.
+    /// A name of such an id that stands for no slot of the pattern is a fresh slot, which all ids of the match share. A
+    /// pattern with a wrong number of child patterns at some e-node has no match. The first search after a change of
+    /// classes or filed e-nodes takes time for each filed e-node.
     pub fn find_matches(&mut self, pattern: &Pattern<L>) -> Result<Matches, Error>
         requires { IsTrue self.old.failed ⊎ HasKnownNames self.old.table (tree_of L.form pattern.now) }
 
-        // What the matcher finds over all filed nodes is found: each answer makes the pattern one that is looked up at a live class. Where no class has dropped
-        // a slot, each substitution that is looked up so is found.
+        // The matches are those of the matcher over all filed e-nodes. Each makes the pattern one that is looked up at
+        // a live class. If no class has a redundant slot, each substitution that is looked up so is a match.
         ensures finds { IfOk result (FindsAllOf self.new (tree_of L.form pattern.now)) }
         ensures looked_up { IfOk result (FindsLookedUp self.new (tree_of L.form pattern.now)) }
         ensures each { IfOk result (FindsEachOf self.new (tree_of L.form pattern.now)) }
@@ -44,7 +46,7 @@ impl<L: Language, N: Analysis<L>> EGraph<L, N> {
         // Each name of a value is a slot of the pattern, or a fresh one.
         ensures fresh { IfOk result (HaveFreshNames self.old.table (tree_of L.form pattern.now)) }
 
-        // Only fresh slots are made, at most as many as the values have names, and a refusal does not fail the graph.
+        // Only fresh slots are made, at most as many as the values have names. An error does not fail the graph.
         ensures takes { OnlyTakesSlots self.old self.new }
         ensures count { IfOk result (λ found. MakesAtMost (name_count found) self.old.table self.new.table) }
         ensures needs { (self.new.table ≡ self.old.table)
@@ -55,7 +57,7 @@ impl<L: Language, N: Analysis<L>> EGraph<L, N> {
         ensures subst { IsErrOf result Error.SubstInSearch
             ↔ ((self.old.failed ≡ false) × (has_substitution (tree_of L.form pattern.now) ≡ true)) }
 
-        // They run out where fewer are left than that, or where a filed node or one of the pattern has too many places.
+        // They run out if fewer are left than that, or if a filed e-node or one of the pattern has too many places.
         ensures full { IsErrOf result Error.OutOfSlots → HasWideRow self.new ⊎ (HasWideNode (tree_of L.form pattern.now)
             ⊎ RunsOutFor (tree_of L.form pattern.now) (FindsAll self.new) self.old.table self.new.table) }
         ensures only { IfErr result (λ e. (e ≡ Error.Failed) ⊎ ((e ≡ Error.SubstInSearch) ⊎ IsShortage e)) }
@@ -79,9 +81,8 @@ impl<L: Language, N: Analysis<L>> EGraph<L, N> {
         )
     }
 
-    /// Returns what is found for a pattern at the class that an id finds. The names of the id do not matter.
-    ///
-    /// It answers as `find_matches` does at this one class.
+    /// Returns the matches of a pattern at the class that `find` maps an id to, as `find_matches` does. The names of
+    /// the id do not matter.
     pub fn find_matches_in(
         &mut self,
         id: &AppliedId,
@@ -90,8 +91,8 @@ impl<L: Language, N: Analysis<L>> EGraph<L, N> {
         requires valid { IsTrue self.old.failed ⊎ IsValidId self.old (to_applied id.now) }
         requires known { IsTrue self.old.failed ⊎ HasKnownNames self.old.table (tree_of L.form pattern.now) }
 
-        // What the matcher finds there is found: each answer makes the pattern one that is looked up as an id of the class. Where no class has dropped a
-        // slot, each substitution that is looked up so is found.
+        // The matches are those of the matcher at this class. Each makes the pattern one that is looked up as an id of
+        // the class. If no class has a redundant slot, each substitution that is looked up so is a match.
         ensures finds { IfOk result
             (FindsAllAtOf self.new (class_found self.new.image id.now.id.0) (tree_of L.form pattern.now)) }
         ensures looked_up { IfOk result
@@ -106,7 +107,7 @@ impl<L: Language, N: Analysis<L>> EGraph<L, N> {
         // Each name of a value is a slot of the pattern, or a fresh one.
         ensures fresh { IfOk result (HaveFreshNames self.old.table (tree_of L.form pattern.now)) }
 
-        // Only fresh slots are made, at most as many as the values have names, and a refusal does not fail the graph.
+        // Only fresh slots are made, at most as many as the values have names. An error does not fail the graph.
         ensures takes { OnlyTakesSlots self.old self.new }
         ensures count { IfOk result (λ found. MakesAtMost (name_count found) self.old.table self.new.table) }
         ensures needs { (self.new.table ≡ self.old.table) ⊎ TakesFor (tree_of L.form pattern.now)
@@ -117,7 +118,7 @@ impl<L: Language, N: Analysis<L>> EGraph<L, N> {
         ensures subst { IsErrOf result Error.SubstInSearch
             ↔ ((self.old.failed ≡ false) × (has_substitution (tree_of L.form pattern.now) ≡ true)) }
 
-        // They run out where fewer are left than that, or where a filed node or one of the pattern has too many places.
+        // They run out if fewer are left than that, or if a filed e-node or one of the pattern has too many places.
         ensures full { IsErrOf result Error.OutOfSlots → HasWideRow self.new ⊎ (HasWideNode (tree_of L.form pattern.now)
             ⊎ RunsOutFor (tree_of L.form pattern.now)
             (FindsAllAt self.new (class_found self.new.image id.now.id.0)) self.old.table self.new.table) }

@@ -1,4 +1,4 @@
-//! What the graph tells of its filed nodes.
+//! Reports on the filed e-nodes of the graph.
 ghost use Rattle.std.specs.Prelude.{◌≡◌, ◌⊎◌, ◌↔◌, ◌<◌, length, All, IsTrue, IfOk, IfErr, IsErrOf};
 ghost use Rattle.slotted_slots.specs.Error.{IsShortage};
 ghost use Rattle.slotted_slots.specs.Maps.{values};
@@ -18,26 +18,29 @@ use slotted_slots::{AppliedId, Error, Id};
 use std::collections::HashSet;
 
 impl<L: Language, N: Analysis<L>> EGraph<L, N> {
-    /// Returns the number of filed nodes, also of a failed graph. Takes no memory.
+    /// Returns the number of filed e-nodes, also of a failed graph. Takes no memory.
     pub fn total_number_of_nodes(&self) -> usize
         ensures { result ≡ length self.now.filed }
     {
         reports::filed_count(&self.nodes)
     }
 
-    /// Returns the filed nodes of the class of an id, with the id's names, ascending by their shapes. For a slot that the id has no name for, or that
-    /// unions dropped, stands a fresh one, and binders are fresh. A class that does not find itself has none.
+    /// Returns the filed e-nodes of the class of an id, with the id's names, ascending by their shapes.
+    ///
+    /// For each slot that the id has no name for, or that is redundant, a fresh one is put in. Binders are fresh. A
+    /// dead class has no filed e-nodes.
     pub fn enodes_applied(&mut self, a: &AppliedId) -> Result<Vec<L>, Error>
         requires { IsTrue self.old.failed ⊎ IsValidId self.old (to_applied a.now) }
         ensures each { IfOk result (λ v. HasEachNode L.form self.old a.now.id.0 v.items) }
         ensures dead { IfOk result (λ v. IsNoneIfDead self.old a.now.id.0 v.items) }
         ensures ascend { IfOk result (λ v. AscendByShape L.form L.cmp v.items) }
 
-        // Each is valid, and is looked up as what the id finds. The table knew no binder's name, and no free one but the names of the id.
+        // Each e-node is valid, and is looked up as what `find` maps the id to. The table knew no binder's name, and no
+        // free one but the names of the id.
         ensures nodes { IfOk result (λ v. All (λ n. IsEnode self.new (to_applied a.now) (L.form n)) v.items) }
         ensures fresh { IfOk result (λ v. All (λ n. HasFreshNames self.old.table (values a.now.m) (L.form n)) v.items) }
 
-        // Only fresh slots are made, two at most for each place of these nodes, and a refusal does not fail the graph.
+        // Only fresh slots are made, at most two for each place of these e-nodes. An error does not fail the graph.
         ensures takes { OnlyTakesSlots self.old self.new }
         ensures count { MakesAtMost (slots_for_enodes self.old a.now.id.0) self.old.table self.new.table }
         ensures stays { IsTrue self.old.failed → self.new ≡ self.old }
@@ -52,14 +55,15 @@ impl<L: Language, N: Analysis<L>> EGraph<L, N> {
         nodes::enodes_applied(&self.store, &self.nodes, self.alloc, &mut self.table, a)
     }
 
-    /// Returns the filed nodes of a class, over the slots that it has left. A number stands for each slot that unions dropped, and for each binder.
-    /// A class that does not find itself has none.
+    /// Returns the filed e-nodes of a class, over the slots that are not redundant.
+    ///
+    /// A number stands for each redundant slot, and for each binder. A dead class has no filed e-nodes.
     pub fn enodes(&self, id: Id) -> Result<HashSet<L>, Error>
         requires { IsTrue self.now.failed ⊎ (id.0 < length self.now.image.canonical) }
         ensures each { IfOk result (λ s. HasEachNode L.form self.now id.0 s.keys) }
         ensures dead { IfOk result (λ s. IsNoneIfDead self.now id.0 s.keys) }
 
-        // Each is valid, and is looked up as what the class with its slots as names finds.
+        // Each e-node is valid, and is looked up as what `find` maps the class to, with its slots as names.
         ensures nodes { IfOk result
             (λ s. All (λ n. IsEnode self.now (names_slots self.now.image id.0) (L.form n)) s.keys) }
         ensures names { IfOk result (λ s. All (λ n. HasOwnNames self.now.image id.0 (L.form n)) s.keys) }
@@ -75,8 +79,8 @@ impl<L: Language, N: Analysis<L>> EGraph<L, N> {
         nodes::enodes(&self.store, &self.nodes, self.alloc, &class)
     }
 
-    /// Returns whether what is kept of filed nodes fits together: each class finds one that finds itself, and each filed node stands under its own
-    /// shape, once. It is so in every graph that has not failed.
+    /// Returns whether what is kept of filed e-nodes is consistent: `find` maps each class to a live one, and each
+    /// filed e-node is kept by its own shape, once. The answer is true in every graph that has not failed.
     pub fn check(&self) -> Result<bool, Error>
         ensures yes { IfOk result (λ y. IsTrue y) }
         ensures failed { IsErrOf result Error.Failed ↔ IsTrue self.now.failed }

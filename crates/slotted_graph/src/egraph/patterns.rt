@@ -14,14 +14,15 @@ use slotted_patterns::Pattern;
 use slotted_rule_patterns::inside::{Question, first_such};
 use slotted_slots::{Error, SlotTable};
 
-// Whether the table knows each name of a node. One with 2^30 places or more cannot be read.
+// Returns whether the table knows each name of an e-node. An e-node with 2^30 places or more cannot be numbered, and is
+// not known.
 fn is_known_node<L: Language>(table: &SlotTable, node: &L) -> bool
     ensures { result ≡ knows_node table.now (L.form node.now) }
 {
     node.slot_count() < PLACES && places_are_known(table, node)
 }
 
-// Is it a node whose names the table does not all know?
+// The test for e-nodes with a name that the table does not know.
 #[derive(Drop)]
 struct Unknown<'a> {
     table: &'a SlotTable,
@@ -39,7 +40,7 @@ impl<'a> Question for Unknown<'a> {
     }
 }
 
-// Whether the table knows each name of each node of the pattern.
+// Returns whether the table knows each name of each e-node of the pattern.
 fn has_known_names<L: Language>(table: &SlotTable, pattern: &Pattern<L>) -> bool
     ensures { result ≡ knows_pattern table.now (tree_of L.form pattern.now) }
 {
@@ -47,14 +48,17 @@ fn has_known_names<L: Language>(table: &SlotTable, pattern: &Pattern<L>) -> bool
 }
 
 impl<L: Language, N: Analysis<L>> EGraph<L, N> {
-    /// Returns the pattern that a text writes, as `Pattern::parse` reads it: each slot's name is looked up or kept in the graph's
-    /// table. A text that is refused does not fail the graph, and the names that were read before it stay in the table.
+    /// Returns the pattern that a text writes, as `Pattern::parse` reads it. Each slot's name is looked up or kept in
+    /// the graph's table.
+    ///
+    /// A text that is refused does not fail the graph. The names that were read before the error stay in the table.
     pub fn parse_pattern(&mut self, text: &str) -> Result<Pattern<L>, Error>
-        // The answer is that of the text over the graph's table, which knows the names of the pattern's nodes from now on.
+        // The answer is that of the text over the graph's table, which knows the names of the pattern's e-nodes from
+        // now on.
         ensures answer { AnswersPattern L.form L.read self.old self.new text.now result }
         ensures known { IfOk result (λ p. HasKnownNames self.new.table (tree_of L.form p)) }
 
-        // Only the table changes, and on a failed graph nothing does.
+        // Only the table changes. On a failed graph nothing changes.
         ensures reads { OnlyReads self.old self.new }
         ensures stays { IsTrue self.old.failed → self.new ≡ self.old }
 
@@ -66,9 +70,11 @@ impl<L: Language, N: Analysis<L>> EGraph<L, N> {
         Pattern::parse(self.alloc, text, &mut self.table)
     }
 
-    /// Returns whether a pattern is one over this graph: the slots of its nodes are known. The child ids inside pattern nodes are null, or have
-    /// known names too. A node with 2^30 places or more cannot be read: a pattern with one is not valid. Nothing is valid in a failed graph. The
-    /// patterns inside are gone through by a list, and without one if memory for it is refused.
+    /// Returns whether a pattern is over this graph: the table knows the slots of its e-nodes.
+    ///
+    /// The child ids inside the e-nodes are null, or have known names too. An e-node with 2^30 places or more cannot be
+    /// numbered, and a pattern with one is not valid. No pattern is valid in a failed graph. The inner patterns are
+    /// listed, or read without a list if memory for one is refused.
     pub fn is_valid_pattern(&self, pattern: &Pattern<L>) -> bool
         ensures failed { IsTrue result → self.now.failed ≡ false }
         ensures known { IsTrue result → HasKnownNames self.now.table (tree_of L.form pattern.now) }

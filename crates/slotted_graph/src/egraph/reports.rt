@@ -1,4 +1,4 @@
-//! What the graph tells of its classes, and slots of its table.
+//! Reports on the graph's classes, and slots of its table.
 ghost use Rattle.std.specs.Prelude.{◌≡◌, ◌⊎◌, ◌↔◌, ◌+◌, ◌<◌, length, false, IsTrue, IfOk, IfErr, IsErrOf, OnErr, OnOk};
 ghost use Rattle.slotted_lookup.specs.Reports.{live_ids};
 ghost use Rattle.slotted_slots.specs.Error.{IsOutOfMemory};
@@ -23,7 +23,7 @@ use slotted_reports::{ProgressMeasure, measure};
 use slotted_slots::{AppliedId, Error, Id, Slot, SmallHashSet};
 use std::alloc::Global;
 
-// The classes that find themselves, ascending.
+// Returns the live classes, ascending.
 fn live_ids<L: Language>(store: &Store<L>, alloc: Global) -> Result<Vec<Id>, Error>
     ensures ok { IfOk result (λ v. class_numbers v.items ≡ live_ids store.now) }
     ensures err { IfErr result IsOutOfMemory }
@@ -38,27 +38,27 @@ fn live_ids<L: Language>(store: &Store<L>, alloc: Global) -> Result<Vec<Id>, Err
 }
 
 impl<L: Language, N: Analysis<L>> EGraph<L, N> {
-    /// Returns whether a number is that of a class. None is in a failed graph. Takes no memory.
+    /// Returns whether a number is that of a class. The answer is false in a failed graph. Takes no memory.
     pub fn is_valid_id(&self, id: Id) -> bool
         ensures { IsTrue result ↔ HasClass self.now id.0 }
     {
         !self.failed && id.0 < self.store.class_count()
     }
 
-    /// Returns whether a number is that of a class that finds itself. None is in a failed graph. Takes no memory.
+    /// Returns whether a number is that of a live class. The answer is false in a failed graph. Takes no memory.
     pub fn is_alive(&self, id: Id) -> bool
         ensures { IsTrue result ↔ (HasClass self.now id.0 × (class_found self.now.image id.0 ≡ id.0)) }
     {
         self.is_valid_id(id) && reports::is_alive(&self.store, id.0)
     }
 
-    /// Returns what an applied id finds: a live class, with a name for just each slot that it has left. The id may lack names for slots that
-    /// unions dropped.
+    /// Returns what `find` maps an applied id to: a live class, with a name for just each slot that is not redundant.
+    /// The id may omit names of redundant slots.
     pub fn find_applied_id(&self, a: &AppliedId) -> Result<AppliedId, Error>
         requires { IsTrue self.now.failed ⊎ IsValidId self.now (to_applied a.now) }
         ensures ok { IfOk result (λ b. to_applied b ≡ found_id self.now.image (to_applied a.now)) }
 
-        // It finds what the id finds, so itself: asked again, the answer stays. `eq` of the two is yes.
+        // The answer is a canonical id. `eq` of the id and the answer is true.
         ensures found { IfOk result (λ b. IsFoundFor self.now (to_applied a.now) (to_applied b)) }
 
         ensures failed { IsErrOf result Error.Failed ↔ IsTrue self.now.failed }
@@ -70,7 +70,7 @@ impl<L: Language, N: Analysis<L>> EGraph<L, N> {
         finding::find_applied_id(&self.store, self.alloc, a)
     }
 
-    /// Returns the classes that find themselves, ascending.
+    /// Returns the live classes, ascending.
     pub fn ids(&self) -> Result<Vec<Id>, Error>
         ensures ok { IfOk result (λ v. class_numbers v.items ≡ live_classes self.now.image) }
 
@@ -84,7 +84,7 @@ impl<L: Language, N: Analysis<L>> EGraph<L, N> {
         Ok(ids)
     }
 
-    /// Returns how far the graph is. Of a failed one nothing is counted. Takes no memory.
+    /// Returns the progress measure of the graph. Nothing is counted in a failed graph. Takes no memory.
     pub fn progress(&self) -> ProgressMeasure
         ensures measure { IsTrue self.now.failed ⊎ IsProgress self.now.image result }
         ensures failed { IsTrue self.now.failed → result ≡ no_progress }
@@ -100,7 +100,7 @@ impl<L: Language, N: Analysis<L>> EGraph<L, N> {
         measure::progress(&self.store)
     }
 
-    /// Returns the slots of a class that no union dropped, ascending. The table knows them.
+    /// Returns the slots of a class that are not redundant, ascending. The table knows them.
     pub fn slots(&self, id: Id) -> Result<SmallHashSet<Slot>, Error>
         requires { IsTrue self.now.failed ⊎ (id.0 < length self.now.image.canonical) }
         ensures ok { IfOk result (λ s. s ≡ slots_used self.now.image id.0) }
@@ -115,7 +115,7 @@ impl<L: Language, N: Analysis<L>> EGraph<L, N> {
         reports::slots_of(&self.store, self.alloc, id.0)
     }
 
-    /// Returns a class with each slot that it has left as its own name.
+    /// Returns a class with each slot that is not redundant as its own name.
     pub fn mk_identity_applied_id(&self, id: Id) -> Result<AppliedId, Error>
         requires { IsTrue self.now.failed ⊎ (id.0 < length self.now.image.canonical) }
         ensures ok { IfOk result (λ a. to_applied a ≡ names_slots self.now.image id.0) }
@@ -136,7 +136,7 @@ impl<L: Language, N: Analysis<L>> EGraph<L, N> {
         ensures slot { IfOk result (λ s. s ≡ fresh_slot self.old.table.fresh) }
         ensures moved { OnOk result (self.new.table ≡ record self.old.table { fresh = self.old.table.fresh + 1 }) }
 
-        // It was not known, and is known from now on. Only the table changes, and a refusal does not fail the graph.
+        // The slot was not known, and is known from now on. Only the table changes. An error does not fail the graph.
         ensures unused { IfOk result (λ s. is_known self.old.table s ≡ false) }
         ensures known { IfOk result (λ s. IsTrue (is_known self.new.table s)) }
         ensures takes { OnlyTakesSlots self.old self.new }
@@ -153,11 +153,13 @@ impl<L: Language, N: Analysis<L>> EGraph<L, N> {
         self.table.fresh()
     }
 
-    /// Returns the slot of the text after a `$` in the graph's table, as `SlotTable::named` reads it. Only a new name takes memory.
+    /// Returns the slot of the text after a `$` in the graph's table, as `SlotTable::named` reads it. Only a new name
+    /// takes memory.
     pub fn named_slot(&mut self, s: &str) -> Result<Slot, Error>
         ensures slot { IfOk result (λ slot. named_of self.old.table s.now ≡ gives slot self.new.table) }
 
-        // The slot is known from now on, and a name prints as it was given. Only the table changes, and a refusal does not fail the graph.
+        // The slot is known from now on, and a name prints as it was given. Only the table changes. An error does not
+        // fail the graph.
         ensures known { IfOk result (λ slot. IsTrue (is_known self.new.table slot)) }
         ensures shown { IfOk result (PrintsWord self.new.table s.now) }
         ensures reads { OnlyReads self.old self.new }

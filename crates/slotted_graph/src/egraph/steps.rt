@@ -1,4 +1,4 @@
-//! Proof steps, each accepted exactly where it is right.
+//! Proof steps, each accepted if and only if it is right.
 ghost use Rattle.std.specs.Prelude.{◌≡◌, ◌⊎◌, ◌↔◌, IsTrue, IfOk, OnErr, IfErr, IsErrOf};
 ghost use Rattle.slotted_model.specs.ProofList.{Step, reflexive, symmetric, transitive, congruent};
 ghost use Rattle.slotted_proofs.specs.Steps.{IsRefusal};
@@ -15,14 +15,13 @@ use slotted_slots::Error;
 
 /// A step by which an equation is proved.
 pub trait Check {
-    // Which step it is.
+    // The step of the model.
     ghost step: { Self → Step };
 
-    /// Returns the number of the equation, which is entered by this step if it is not there yet.
+    /// Returns the number of the equation, which this step enters if it is not there yet.
     ///
-    /// Any equation may be handed in, and any numbers in the step. `BadStep` if the step does not prove the equation over the
-    /// entries of this graph, or a side is not an id of this graph with different names for exactly the canonical slots of its
-    /// class. A refusal changes nothing.
+    /// Any equation may be given, and any numbers in the step. `BadStep` if the step does not prove the equation over
+    /// the entries of this graph. `BadStep`, too, if a side is not a full id of this graph. An error changes nothing.
     fn check<L: Language, N: Analysis<L>>(
         &self,
         equation: &Equation,
@@ -31,11 +30,11 @@ pub trait Check {
         ensures fits { IfOk result (λ _. Fits graph.old.image equation.now (step self.now)) }
         ensures refused { IsErrOf result Error.BadStep → ¬ Fits graph.old.image equation.now (step self.now) }
 
-        // What stands at the answered number follows from what was asserted.
+        // What stands at the returned number follows from what was asserted.
         ensures accepted { IfOk result (Accepts graph.old graph.new (entry_by equation.now (step self.now))) }
         ensures derivable { IfOk result (λ _. IsDerivable graph.old.image equation.now) }
 
-        // And from the explicit leaves of its own tree alone.
+        // The equation follows from the asserted leaves of its own tree alone.
         ensures leaves { IfOk result (FollowsFromEntry graph.new.image equation.now) }
 
         ensures err { OnErr result (graph.new ≡ graph.old) }
