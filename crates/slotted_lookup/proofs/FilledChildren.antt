@@ -7,7 +7,7 @@ use Rattle.slotted_theory.specs.Renaming.{IsInjective}
 use Rattle.slotted_theory.proofs.Names.{extend-other, extend-injective}
 use Rattle.slotted_theory.proofs.Values.{child_before}
 use Rattle.slotted_slots.specs.Maps.{keys, values}
-use Rattle.slotted_slots.specs.Table.{Table, is_known, KnowsMore}
+use Rattle.slotted_slots.specs.Table.{Table, is_known, KnowsMore, AllKnown}
 use Rattle.slotted_nodes.specs.Form.{Form, Tree, leaf, own, child, bind, scopes, children}
 use Rattle.slotted_languages.specs.NodeTerm.{nameless_node, own_names, node_args}
 use Rattle.slotted_languages.specs.Shape.{Fits}
@@ -27,7 +27,7 @@ use Rattle.slotted_classes.specs.Kept.{Kept, nodes_of, entries_of}
 use Rattle.slotted_classes.proofs.ChildIds.{Each, Each-append, Each-from_All, atom-is, zip-keys_values, length-ids}
 use Rattle.slotted_hashcons.specs.NormalNodes.{HasFindableChildren}
 use Rattle.slotted_hashcons.proofs.FoundChildren.{Each-at, child_ids-valid}
-use Rattle.slotted_lookup.specs.Filling.{AllKnown, HasFullChildren, HasOneNormalForm, MakesAtMost, RunsOut, with_fresh, filled_id, filled_ids, filled_node, missing, missing_in, missing_of, tree_over, names_over, node_over}
+use Rattle.slotted_lookup.specs.Filling.{HasFullChildren, HasOneNormalForm, MakesAtMost, RunsOut, with_fresh, filled_id, filled_ids, filled_node, missing, missing_in, missing_of, tree_over, names_over, node_over}
 use Rattle.slotted_lookup.proofs.FilledIds.{FillsNew, Knows, knows, all_known, known-apart, filled-new, new-renamed, filled-found, filled-known, filled-whole, with_fresh-more}
 use Rattle.slotted_lookup.proofs.NodesOver.{over_fits, names_fit, child_ids-over, node_over-own}
 

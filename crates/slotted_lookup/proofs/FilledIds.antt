@@ -9,7 +9,7 @@ use Rattle.slotted_theory.specs.Renaming.{IsInjective}
 use Rattle.slotted_theory.specs.FiniteMaps.{IsInjectiveMap, HasValue, with_values}
 use Rattle.slotted_theory.specs.FiniteMaps as model
 use Rattle.slotted_slots.specs.Maps.{keys, values, value_of}
-use Rattle.slotted_slots.specs.Table.{Table, fresh_slot, is_known, KnowsMore}
+use Rattle.slotted_slots.specs.Table.{Table, fresh_slot, is_known, KnowsMore, AllKnown}
 use Rattle.slotted_slots.proofs.TableLaws.{is_known-fresh_slot, KnowsMore-grows}
 use Rattle.slotted_model.specs.Applied.{Applied, renamed_id}
 use Rattle.slotted_model.specs.Ascending.{IsAscending}
@@ -31,7 +31,7 @@ use Rattle.slotted_classes.specs.Finding.{IsFindable}
 use Rattle.slotted_classes.specs.Kept.{Kept, nodes_of, entries_of}
 use Rattle.slotted_classes.proofs.ChildIds.{zip-keys_values}
 use Rattle.slotted_classes.proofs.NameMaps.{In-key, In-at, at_In}
-use Rattle.slotted_lookup.specs.Filling.{AllKnown, FillsId, lack, lacked, named, filled_id, missing, with_fresh}
+use Rattle.slotted_lookup.specs.Filling.{FillsId, lack, lacked, named, filled_id, missing, with_fresh}
 
 -- known slots
 

@@ -1,7 +1,7 @@
 //! Maps of names that a new class takes, and what ids and nodes are tested for.
 ghost use Rattle.std.specs.Prelude.{◌≡◌, ◌↔◌, ◌+◌, ◌≤◌, ◌^◌, ℕ, length, Contains, IsTrue, IfErr, OnOk};
 ghost use Rattle.slotted_theory.specs.FiniteMaps.{IsInjectiveMap};
-ghost use Rattle.slotted_terms.specs.Valid.{AllKnown};
+ghost use Rattle.slotted_slots.specs.Table.{AllKnown};
 ghost use Rattle.slotted_slots.specs.Maps.{keys, values};
 ghost use Rattle.slotted_slots.specs.Table.{KnowsMore};
 ghost use Rattle.slotted_nodes.specs.Form.{IsSmall};

@@ -104,6 +104,10 @@ named_of t bs = outcome_of t bs (reading_of bs)
 unfoldable pub is_known : Table → ℕ → Bool
 is_known t s = if s % 4 == 0 then true else (if s % 4 == 1 then nat_lt (s / 4) t.fresh else (if s % 4 == 2 then nat_lt (s / 4) (length t.names) else false))
 
+-- the table knows each of the slots
+abbrev pub AllKnown : Table → List ℕ → Type 0
+AllKnown t xs = All (λ s. IsTrue (is_known t s)) xs
+
 -- what the old table knows the new one knows
 abbrev pub KnowsMore : Table → Table → Type 0
 KnowsMore old new = (s : ℕ) → IsTrue (is_known old s) → IsTrue (is_known new s)

@@ -27,7 +27,7 @@ use Rattle.slotted_languages.specs.Sizes.{node_size}
 use Rattle.slotted_hashcons.specs.WellFiled.{state_in}
 use Rattle.slotted_operations.specs.Causes.{HasLargeClassIn, CanRunOutForNode, CanRunOutForTerm, HasLargeClassOrTerm, IsUnknownNode, IsUnknownTerm}
 use Rattle.slotted_operations.specs.Good.{image_of, Good, RestsWith, HasFreshSlots, Adds, AddsTerm, KeepsNotes}
-use Rattle.slotted_operations.specs.Canonical.{IsBeside}
+use Rattle.slotted_languages.specs.Beside.{IsBeside}
 use Rattle.slotted_operations.specs.Graph.{MakesAtMost, RunsOutForNode, RunsOutForTerm}
 use Rattle.slotted_operations.specs.Nodes.{child_ids}
 use Rattle.slotted_operations.specs.Places.{args_places, term_places, term_slots}

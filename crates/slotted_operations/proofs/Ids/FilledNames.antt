@@ -1,9 +1,8 @@
 -- Ids whose missing names were filled in by fresh slots, and how many slots their canonical terms take.
 use Rattle.std.proofs.Common.{◌≡◌, ◌+◌, ◌≤◌, [], ap, subst, arith, inl, inr}
 use Rattle.std.specs.Prelude.{Contains}
-use Rattle.slotted_slots.specs.Table.{Table, KnowsMore}
+use Rattle.slotted_slots.specs.Table.{Table, KnowsMore, AllKnown}
 use Rattle.slotted_slots.proofs.SlotsTaken.{fresh_goes_on}
-use Rattle.slotted_terms.specs.Valid.{AllKnown}
 use Rattle.slotted_model.specs.Applied.{Applied, keys, values}
 use Rattle.slotted_model.specs.Classes.{IsFull}
 use Rattle.slotted_model.specs.Filling.{IsFilling}

@@ -7,10 +7,9 @@ use Rattle.slotted_theory.specs.Nameless.{DTerm}
 use Rattle.slotted_theory.specs.Term.{Term}
 use Rattle.slotted_slots.specs.declared.types.AppliedId.{AppliedId}
 use Rattle.slotted_slots.specs.Maps.{values}
-use Rattle.slotted_slots.specs.Table.{KnowsMore, Table, is_known}
+use Rattle.slotted_slots.specs.Table.{KnowsMore, Table, is_known, AllKnown}
 use Rattle.slotted_nodes.specs.Form.{Form, Tree, leaf, own, child, bind, scopes, children}
 use Rattle.slotted_languages.specs.Filled.{term_of}
-use Rattle.slotted_terms.specs.Valid.{AllKnown}
 use Rattle.slotted_model.specs.Applied.{Applied}
 use Rattle.slotted_model.specs.Classes.{Canonical, IsFull}
 use Rattle.slotted_model.proofs.Data.Members.{In}
