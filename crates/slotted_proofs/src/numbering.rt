@@ -16,8 +16,8 @@ use std::alloc::Global;
 /// Equations with as many places or more are refused.
 const PLACES: usize = 1 << 30;
 
-// The slots of the one map with the slots of the other that have the same name.
-pub(crate) fn shared_names(alloc: Global, from: &SlotMap, to: &SlotMap) -> Result<SlotMap, Error>
+/// Returns each slot of the one map with the slot of the other that has the same name.
+pub fn shared_names(alloc: Global, from: &SlotMap, to: &SlotMap) -> Result<SlotMap, Error>
     requires { IsInjectiveMap to.now }
     ensures ok { IfOk result (λ m. m ≡ same_names from.now to.now) }
     ensures err { IfErr result IsOutOfMemory }

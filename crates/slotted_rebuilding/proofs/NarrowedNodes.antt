@@ -24,7 +24,8 @@ use Rattle.slotted_unions.proofs.EnteredProofs.{only-grows, nothing-proved}
 use Rattle.slotted_hashcons.specs.FoundNodes.{FilesNode, HasNoMorePlaces, IsFoundNode, finds_of}
 use Rattle.slotted_hashcons.specs.NormalNodes.{HasFindableChildren}
 use Rattle.slotted_hashcons.specs.Sides.{AreTwinSides}
-use Rattle.slotted_hashcons.proofs.CanonicalChildren.{node-is, sane-findable}
+use Rattle.slotted_classes.proofs.ClassNodes.{node-is}
+use Rattle.slotted_hashcons.proofs.CanonicalChildren.{sane-findable}
 use Rattle.slotted_hashcons.proofs.KeyedNodes.{no-more-places}
 use Rattle.slotted_congruence.specs.Congruence.{AreTwins, ProvesTwins}
 use Rattle.slotted_congruence.proofs.WideNodes.{wide_class}

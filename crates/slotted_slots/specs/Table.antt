@@ -1,5 +1,5 @@
 -- The table of slots: what a text names in it, which slots it knows, and how a slot prints.
-use Rattle.std.specs.Prelude.{◌≡◌, ℕ, zero, suc, ◌+◌, ◌*◌, ◌/◌, ◌%◌, ◌^◌, ◌<◌, ◌≤◌, Bool, true, false, ◌&&◌, List, [], ◌∷◌, ◌++◌, length, max, not, Option, Some, None, if◌then◌else◌, ◌==◌, nat_lt, position, slice_get, slice_index_or, IsTrue, decimal, codes}
+use Rattle.std.specs.Prelude.{◌≡◌, ℕ, zero, suc, ◌+◌, ◌*◌, ◌/◌, ◌%◌, ◌^◌, ◌<◌, ◌≤◌, Bool, true, false, ◌&&◌, List, [], ◌∷◌, ◌++◌, length, max, not, Option, Some, None, if◌then◌else◌, ◌==◌, nat_lt, position, slice_get, slice_index_or, All, IsTrue, decimal, codes}
 use Rattle.std.specs.List.{filter}
 use Rattle.std.specs.Str.{bytes_eq, all_ascii_digits}
 use Rattle.std.specs.Str.Parse.{digits_value, without_leading_plus}

@@ -1,5 +1,5 @@
 -- Terms that a graph can take in: each node has the right number of children, and a table knows each name.
-use Rattle.std.specs.Prelude.{ℕ, ◌<◌, List, IsTrue, All}
+use Rattle.std.specs.Prelude.{◌<◌, IsTrue}
 use Rattle.slotted_theory.specs.Term.{Args, done, name, child, bind, Term}
 use Rattle.slotted_slots.specs.Table.{Table, is_known}
 pub use Rattle.slotted_slots.specs.Table.{AllKnown}

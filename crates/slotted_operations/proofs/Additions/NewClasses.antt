@@ -27,7 +27,7 @@ use Rattle.slotted_hashcons.specs.Filed.{Filing, filed_of}
 use Rattle.slotted_hashcons.specs.FiledRows.{Rows, row_of_entry, rows_in}
 use Rattle.slotted_hashcons.proofs.FiledRows.{row-filed}
 use Rattle.slotted_hashcons.specs.FoundNodes.{HasNoMorePlaces}
-use Rattle.slotted_hashcons.proofs.CanonicalChildren.{node-is}
+use Rattle.slotted_classes.proofs.ClassNodes.{node-is}
 use Rattle.slotted_hashcons.proofs.KeyedNodes.{same-places}
 use Rattle.slotted_classes.specs.Stored.{Stored}
 use Rattle.slotted_unions.specs.Grows.{GrowsUncounted}

@@ -9,7 +9,7 @@ use Rattle.slotted_model.specs.Correspondence.{identity}
 use Rattle.slotted_classes.specs.Kept.{Kept, ClassEntry, RowEntry, names_at, node_at, nodes_of, no_form, no_entry, rows_from}
 use Rattle.slotted_classes.specs.Names.{between}
 use Rattle.slotted_classes.proofs.NamePairs.{ascending-values, between-itself}
-use Rattle.slotted_hashcons.proofs.CanonicalChildren.{node-is}
+use Rattle.slotted_classes.proofs.ClassNodes.{node-is}
 
 from-names : (i : ℕ) (cs : List ClassEntry) (j : ℕ) → j < length cs → (slice_index_or (rows_from i cs) j (no_form, (0, []))).1.1 ≡ (shape (slice_index_or cs j (no_form, no_entry)).0).1
 from-names i [] j l = absurd (omega arith)
