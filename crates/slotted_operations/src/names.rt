@@ -9,12 +9,8 @@ ghost use Rattle.slotted_model.specs.Ascending.{ascending, IsAscending};
 ghost use Rattle.slotted_classes.specs.Names.{fresh_slots};
 ghost use Rattle.slotted_operations.specs.Graph.{MakesAtMost, RunsOut};
 
-use slotted_classes::names::has_value;
 use slotted_languages::Language;
 use slotted_slots::{Error, SlotMap, SlotTable};
-
-/// Nodes with as many places or more are refused.
-pub const PLACES: usize = 1 << 30;
 
 /// Puts a fresh slot in the place of each value.
 pub fn renew_values(map: &mut SlotMap, table: &mut SlotTable) -> Result<(), Error>
@@ -55,7 +51,7 @@ pub fn keys_are_values(map: &SlotMap, slots: &SlotMap) -> bool
     ensures ascending { IsAscending (keys map.now) }
 {
     for (slot, _) in map.iter() {
-        if !has_value(slots, slot) {
+        if !slots.has_value(slot) {
             return false;
         }
     }
