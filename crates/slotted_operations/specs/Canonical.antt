@@ -6,7 +6,7 @@
 use Rattle.std.specs.Prelude.{◌≡◌, ℕ, ◌+◌, ◌^◌, ◌<◌, ◌≤◌, List, length}
 use Rattle.slotted_theory.specs.Nameless.{DArgs, DTerm, stop, place, sub, scope}
 use Rattle.slotted_model.specs.Classes.{canonical_node}
-pub use Rattle.slotted_congruence.specs.Named.{IsNodeOf}
+pub use Rattle.slotted_rebuilding.specs.Named.{IsNodeOf}
 
 abbrev pub args_count : DArgs → ℕ
 args_count stop = 0

@@ -20,7 +20,7 @@ use Rattle.slotted_model.specs.Applied.{Applied}
 use Rattle.slotted_model.specs.Classes.{IsFull, canonical_node, canonical_slots}
 use Rattle.slotted_model.specs.Ids.{id_of, id_of_node}
 pub use Rattle.slotted_proofs.specs.Equations.{HaveManyNames, HasManyNames}
-pub use Rattle.slotted_congruence.specs.Named.{SidesRunOut, IsWideClass}
+pub use Rattle.slotted_rebuilding.specs.Named.{SidesRunOut, IsWideClass}
 pub use Rattle.slotted_languages.specs.Sizes.{IsWideNode}
 use Rattle.slotted_operations.specs.Canonical.{place_count}
 use Rattle.slotted_operations.specs.Graph.{RunsOutForNode, RunsOutForTerm}

@@ -1,4 +1,8 @@
 -- Lemmas of rebuilding.
+pub mod WideNodes
+pub mod Naming
+pub mod ChildrenOfTwins
+pub mod BridgedParts
 pub mod Runs
 pub mod FiledStates
 pub mod LargeClasses

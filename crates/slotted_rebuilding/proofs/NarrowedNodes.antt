@@ -27,8 +27,8 @@ use Rattle.slotted_hashcons.specs.Sides.{AreTwinSides}
 use Rattle.slotted_classes.proofs.ClassNodes.{node-is}
 use Rattle.slotted_hashcons.proofs.CanonicalChildren.{sane-findable}
 use Rattle.slotted_hashcons.proofs.KeyedNodes.{no-more-places}
-use Rattle.slotted_congruence.specs.Congruence.{AreTwins, ProvesTwins}
-use Rattle.slotted_congruence.proofs.WideNodes.{wide_class}
+use Rattle.slotted_rebuilding.specs.Congruence.{AreTwins, ProvesTwins}
+use Rattle.slotted_rebuilding.proofs.WideNodes.{wide_class}
 use Rattle.slotted_rebuilding.specs.Causes.{HasLargeClass}
 use Rattle.slotted_hashcons.specs.WellFiled.{state_in, IsKeyed, IsWellFiled}
 use Rattle.slotted_rebuilding.specs.Turns.{IsFirst, LacksSlot, NarrowsOnce, NarrowsTo, ProvesCongruence}

@@ -1,5 +1,5 @@
 use Rattle.std.proofs.lemmas.Result.{IfOk-weaker}
-use Rattle.slotted_congruence.specs.Congruence.{ProvesTwins}
+use Rattle.slotted_rebuilding.specs.Congruence.{ProvesTwins}
 use Rattle.slotted_rebuilding.specs.Turns.{ProvesCongruence}
 use Rattle.slotted_rebuilding.proofs.LargeClasses.{large-either, same-error, twins-large}
 use Rattle.slotted_rebuilding.proofs.NarrowedNodes.{are-twins, twins-proved}

@@ -24,11 +24,11 @@ use Rattle.slotted_proofs.specs.Equations.{to_applied}
 use Rattle.slotted_proofs.specs.Steps.{HasInjectiveSides, Matches}
 use Rattle.slotted_classes.specs.Kept.{Kept, nodes_of, entries_of}
 use Rattle.slotted_classes.specs.Stored.{Stored}
-use Rattle.slotted_congruence.specs.Congruence.{IsOfAlike, AreTwins, AreChildrenOf}
+use Rattle.slotted_rebuilding.specs.Congruence.{IsOfAlike, AreTwins, AreChildrenOf}
 use Rattle.slotted_alike.specs.Frames.{AreAlikeForms, AreNeverAlike}
-use Rattle.slotted_congruence.proofs.Naming.{alike_nodes}
+use Rattle.slotted_rebuilding.proofs.Naming.{alike_nodes}
 use Rattle.slotted_alike.proofs.WideNodes.{large_child}
-use Rattle.slotted_congruence.proofs.WideNodes.{wide_at}
+use Rattle.slotted_rebuilding.proofs.WideNodes.{wide_at}
 
 -- two ids match themselves
 

@@ -1,9 +1,9 @@
 use Rattle.std.proofs.Common.{◌∙◌, sym, subst, rules, arith}
 use Rattle.slotted_classes.proofs.KeptLists.{any_default}
 use Rattle.slotted_unions.proofs.EnteredProofs.{only-large}
-use Rattle.slotted_congruence.specs.Congruence.{IsOfAlike}
-use Rattle.slotted_congruence.proofs.BridgedParts.{alike-still, first-none, first-more, first-all}
-use Rattle.slotted_congruence.proofs.twins.bridges.Goals as goal
+use Rattle.slotted_rebuilding.specs.Congruence.{IsOfAlike}
+use Rattle.slotted_rebuilding.proofs.BridgedParts.{alike-still, first-none, first-more, first-all}
+use Rattle.slotted_rebuilding.proofs.twins.bridges.Goals as goal
 
 pub loop-equation-init : goal.loop-equation-init
 loop-equation-init g c = first-none c.args.store.now c.requires.good c.args.equations.now c.new-parts.result.items c.new-parts.ensures.items

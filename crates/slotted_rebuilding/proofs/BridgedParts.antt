@@ -25,7 +25,7 @@ use Rattle.slotted_classes.specs.StateOf.{state_of}
 use Rattle.slotted_classes.specs.Stored.{Stored}
 use Rattle.slotted_unions.proofs.EnteredProofs.{entering-proves, nothing-proved, only-nodes, only-stands, proved-then, proves-stands}
 use Rattle.slotted_unions.proofs.JoinedIds.{own_map, written_sides}
-use Rattle.slotted_congruence.specs.Congruence.{IsOfAlike, AreTwins, AreChildrenOf, ProvesSides, ProvesEach, ProvesTwins}
+use Rattle.slotted_rebuilding.specs.Congruence.{IsOfAlike, AreTwins, AreChildrenOf, ProvesSides, ProvesEach, ProvesTwins}
 
 -- the sides of an equation find alike so long as only proofs are entered
 pub alike-still : (k l : Kept) → OnlyProves k l → (e : Sides) → IsOfAlike k e → IsOfAlike l e

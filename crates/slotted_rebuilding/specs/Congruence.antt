@@ -18,7 +18,7 @@ use Rattle.slotted_classes.specs.Finding.{FindAlike}
 use Rattle.slotted_classes.specs.Kept.{Kept, nodes_of, entries_of}
 use Rattle.slotted_unions.specs.Proving.{OnlyProves, HasLargeClassOf}
 use Rattle.slotted_classes.specs.StateOf.{state_of}
-use Rattle.slotted_congruence.specs.Named.{HasWideSide, SidesRunOut}
+use Rattle.slotted_rebuilding.specs.Named.{HasWideSide, SidesRunOut}
 
 pub record IsOfAlike (k : Kept) (e : Sides) : Type 0 where
   pub left : IsFull (nodes_of k) (to_applied e.l)

@@ -1,5 +1,5 @@
-use Rattle.slotted_congruence.proofs.BridgedParts.{ProvesFirst}
-use Rattle.slotted_congruence.proofs.twins.bridges.Given as goal
+use Rattle.slotted_rebuilding.proofs.BridgedParts.{ProvesFirst}
+use Rattle.slotted_rebuilding.proofs.twins.bridges.Given as goal
 
 -- the equations so far are proved
 abbrev pub invariant-loop-equation : goal.invariant-loop-equation

@@ -5,10 +5,10 @@ use Rattle.slotted_languages.specs.NodeTerm.{nameless_node}
 use Rattle.slotted_classes.specs.Kept.{nodes_of}
 use Rattle.slotted_proofs.specs.Equations.{to_applied}
 use Rattle.slotted_classes.proofs.KeptLists.{length-nodes_of}
-use Rattle.slotted_congruence.specs.Named.{IsNodeOf}
-use Rattle.slotted_congruence.proofs.Naming.{names_all, named, canonical-at}
-use Rattle.slotted_congruence.proofs.WideNodes.{own_table_wide}
-use Rattle.slotted_congruence.proofs.named.named_node.Goals as goal
+use Rattle.slotted_rebuilding.specs.Named.{IsNodeOf}
+use Rattle.slotted_rebuilding.proofs.Naming.{names_all, named, canonical-at}
+use Rattle.slotted_rebuilding.proofs.WideNodes.{own_table_wide}
+use Rattle.slotted_rebuilding.proofs.named.named_node.Goals as goal
 
 pub node_of-requires : goal.node_of-requires
 node_of-requires g c =

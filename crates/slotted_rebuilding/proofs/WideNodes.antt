@@ -17,7 +17,7 @@ use Rattle.slotted_model.specs.Classes.{canonical_node, IsFull}
 use Rattle.slotted_languages.specs.Sizes.{node_size}
 use Rattle.slotted_languages.proofs.NodeSizes.{names_fit_size}
 use Rattle.slotted_alike.proofs.WideNodes.{size-moved}
-use Rattle.slotted_congruence.specs.Named.{IsWideClass}
+use Rattle.slotted_rebuilding.specs.Named.{IsWideClass}
 use Rattle.slotted_classes.proofs.NameCounts.{names_and_binders}
 use Rattle.slotted_classes.proofs.NameMaps.{length-keys, length-values}
 

@@ -4,10 +4,10 @@ use Rattle.std.proofs.lemmas.Result.{IfOk-weaker}
 use Rattle.slotted_model.specs.ProofList.{congruent}
 use Rattle.slotted_proofs.specs.Steps.{AreEntries, HasInjectiveSides, IsLarge}
 use Rattle.slotted_classes.specs.Kept.{EntersBy}
-use Rattle.slotted_congruence.specs.Congruence.{HasLargeBridge, IsOfAlike, ProvesEach, ProvesTwins}
-use Rattle.slotted_congruence.proofs.BridgedParts.{parts-entries, step-proves}
+use Rattle.slotted_rebuilding.specs.Congruence.{HasLargeBridge, IsOfAlike, ProvesEach, ProvesTwins}
+use Rattle.slotted_rebuilding.proofs.BridgedParts.{parts-entries, step-proves}
 use Rattle.slotted_unions.proofs.JoinedIds.{no_bad_step}
-use Rattle.slotted_congruence.proofs.twins.congruence.Goals as goal
+use Rattle.slotted_rebuilding.proofs.twins.congruence.Goals as goal
 
 pub bridges-requires-clause-alike : goal.bridges-requires-clause-alike
 bridges-requires-clause-alike g c = subst (All (IsOfAlike c.args.store.now)) (sym c.deref.ensures.value) c.in_ok-children.ensures.ok.alike

@@ -21,7 +21,7 @@ use Rattle.slotted_proofs.specs.Equations.{to_applied}
 use Rattle.slotted_proofs.specs.Entries.{Proven}
 use Rattle.slotted_proofs.specs.Steps.{AreEntries, HasInjectiveSides, IsEntry, Matches}
 use Rattle.slotted_alike.specs.Frames.{AreAlikeForms}
-use Rattle.slotted_congruence.specs.Frames.{IsCongruentIn}
+use Rattle.slotted_rebuilding.specs.Frames.{IsCongruentIn}
 use Rattle.slotted_classes.specs.Kept.{Kept, node_at, nodes_of, no_form, no_entry}
 use Rattle.slotted_alike.proofs.Frames.{forms_twins, MatchInTurn, match_at, ids_under, injective_before}
 use Rattle.slotted_classes.proofs.KeptLists.{at-mapped, any_default}

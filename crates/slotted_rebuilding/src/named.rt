@@ -4,7 +4,7 @@ ghost use Rattle.slotted_slots.specs.Error.{IsShortage};
 ghost use Rattle.slotted_model.specs.Classes.{IsFull};
 ghost use Rattle.slotted_proofs.specs.Equations.{to_applied};
 ghost use Rattle.slotted_classes.specs.Kept.{nodes_of};
-ghost use Rattle.slotted_congruence.specs.Named.{IsNodeOf, IsWideClass};
+ghost use Rattle.slotted_rebuilding.specs.Named.{IsNodeOf, IsWideClass};
 
 use slotted_classes::Store;
 use slotted_languages::Language;

@@ -3,8 +3,8 @@ ghost use Rattle.std.specs.Prelude.{All, IfOk, IfErr, IsErrOf};
 ghost use Rattle.slotted_slots.specs.Error.{IsShortage};
 ghost use Rattle.slotted_classes.specs.Kept.{nodes_of};
 ghost use Rattle.slotted_classes.specs.Stored.{Stored};
-ghost use Rattle.slotted_congruence.specs.Congruence.{IsOfAlike, AreTwins, AreChildrenOf, HasLargeBridge, ProvesEach, ProvesTwins, TwinsRunOut};
-ghost use Rattle.slotted_congruence.specs.Named.{HasWideSide};
+ghost use Rattle.slotted_rebuilding.specs.Congruence.{IsOfAlike, AreTwins, AreChildrenOf, HasLargeBridge, ProvesEach, ProvesTwins, TwinsRunOut};
+ghost use Rattle.slotted_rebuilding.specs.Named.{HasWideSide};
 
 use crate::named::named_node;
 use slotted_alike::alike::child_equations;

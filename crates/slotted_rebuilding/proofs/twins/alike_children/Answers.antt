@@ -4,9 +4,9 @@ use Rattle.slotted_proofs.specs.Equations.{to_applied}
 use Rattle.slotted_proofs.specs.Steps.{HasInjectiveSides}
 use Rattle.slotted_classes.specs.Kept.{nodes_of}
 use Rattle.slotted_alike.specs.Frames.{AreAlikeForms, AreNeverAlike}
-use Rattle.slotted_congruence.proofs.ChildrenOfTwins.{not_never, twin-children}
-use Rattle.slotted_congruence.proofs.WideNodes.{wide_at}
-use Rattle.slotted_congruence.proofs.twins.alike_children.Goals as goal
+use Rattle.slotted_rebuilding.proofs.ChildrenOfTwins.{not_never, twin-children}
+use Rattle.slotted_rebuilding.proofs.WideNodes.{wide_at}
+use Rattle.slotted_rebuilding.proofs.twins.alike_children.Goals as goal
 
 pub returns-in_err-children-clause-full : goal.returns-in_err-children-clause-full
 returns-in_err-children-clause-full g c x =
