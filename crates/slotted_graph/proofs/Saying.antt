@@ -21,7 +21,7 @@ use Rattle.slotted_model.specs.ProofList.{Equation, equation_of, term_pair}
 use Rattle.slotted_model.proofs.Represented.FillingEquations.{filled-equation}
 use Rattle.slotted_proofs.specs.Entries.{Proven, nothing_proven, proven_at}
 use Rattle.slotted_proofs.specs.Equations.{to_applied}
-use Rattle.slotted_rebuilding.proofs.CountedRebuilds.{counts-same, counts-then}
+use Rattle.slotted_rebuilding.proofs.RebuildCounts.{counts-same, counts-then}
 use Rattle.slotted_operations.proofs.CallerLemmas.{term_later}
 use Rattle.slotted_analyses.specs.Meaning.{IsMergeOf, Meaning, by_bare_nodes}
 use Rattle.slotted_analyses.specs.declared.edit.Edit.{Edit}

@@ -14,7 +14,7 @@ use Rattle.slotted_hashcons.specs.FiledRows.{Rows}
 use Rattle.slotted_languages.specs.Sizes.{node_size}
 use Rattle.slotted_lookup.specs.Filling as filling
 use Rattle.slotted_lookup.specs.Filling.{FillsChildren, HasOneNormalForm, MakesFull, filled_node, missing_in, missing_of, with_fresh}
-use Rattle.slotted_lookup.proofs.FilledSizes.{filled_node-places, filled_node-size, missing_of-full}
+use Rattle.slotted_lookup.proofs.FillingSizes.{filled_node-places, filled_node-size, missing_of-full}
 use Rattle.slotted_operations.specs.Adding.{RunsOutForFilled, HasLargeClassOrFilled, children_lack, lacking_in, slots_needed}
 use Rattle.slotted_operations.specs.Causes.{CanRunOutForNode, HasLargeClassOrNode}
 use Rattle.slotted_operations.specs.Good.{Adds, AddsFilled, image_of}

@@ -9,7 +9,7 @@ use Rattle.slotted_model.specs.Filling.{IsFilling}
 use Rattle.slotted_model.proofs.Data.Members.{In-Contains, Contains-In}
 use Rattle.slotted_classes.specs.Kept.{Kept, nodes_of}
 use Rattle.slotted_lookup.specs.Filling.{FillsId, filled_id, missing, with_fresh}
-use Rattle.slotted_lookup.proofs.FilledIds.{filled-fresh}
+use Rattle.slotted_lookup.proofs.IdFillings.{filled-fresh}
 use Rattle.slotted_operations.specs.Good.{image_of}
 use Rattle.slotted_operations.specs.Graph.{Graph}
 use Rattle.slotted_operations.specs.Syn.{FillsFresh, MakesForTermAt, MakesForTermOf, RunsOutForTermAt, RunsOutForTermOf, slots_for_term, term_binders}

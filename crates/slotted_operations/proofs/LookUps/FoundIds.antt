@@ -35,7 +35,7 @@ use Rattle.slotted_proofs.specs.Equations.{to_applied}
 use Rattle.slotted_hashcons.specs.FiledRows.{Rows, rows_in}
 use Rattle.slotted_hashcons.specs.WellFiled.{state_in}
 use Rattle.slotted_lookup.specs.LookUp as adding
-use Rattle.slotted_lookup.proofs.FoundIds.{found-for}
+use Rattle.slotted_lookup.proofs.Finds.{found-for}
 use Rattle.slotted_operations.specs.Adding.{IsEqualToNode}
 use Rattle.slotted_operations.specs.ValidIds.{Fills, IsValidNode}
 use Rattle.slotted_operations.specs.Good.{Good, KeepsAnswers, RestsWith, image_of}

@@ -14,7 +14,7 @@ use Rattle.slotted_classes.proofs.KeptLists.{length-nodes_of}
 use Rattle.slotted_hashcons.specs.NormalNodes.{HasFindableChildren}
 use Rattle.slotted_hashcons.proofs.FoundIds.{found-itself}
 use Rattle.slotted_hashcons.proofs.FoundChildren.{Each-at, child_ids-valid}
-use Rattle.slotted_lookup.proofs.FoundAsTheyAre.{normal-found}
+use Rattle.slotted_lookup.proofs.NormalNodes.{normal-found}
 use Rattle.slotted_lookup.proofs.lookup.is_normal.Goals as goal
 
 -- each child is an id that finds

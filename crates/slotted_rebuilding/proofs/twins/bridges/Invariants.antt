@@ -1,4 +1,4 @@
-use Rattle.slotted_rebuilding.proofs.BridgedParts.{ProvesFirst}
+use Rattle.slotted_rebuilding.proofs.Bridges.{ProvesFirst}
 use Rattle.slotted_rebuilding.proofs.twins.bridges.Given as goal
 
 -- the equations so far are proved

@@ -12,7 +12,7 @@ use Rattle.slotted_hashcons.specs.WellFiled.{state_in, IsWellFiled}
 use Rattle.slotted_rebuilding.specs.Filed.{SettlesFiled}
 use Rattle.slotted_rebuilding.specs.Turns.{Rebuilds, RebuildsAll, RebuildsSoFar, TakesTurns}
 use Rattle.slotted_rebuilding.specs.Work.{work}
-use Rattle.slotted_rebuilding.proofs.CountedRebuilds.{run-counted}
+use Rattle.slotted_rebuilding.proofs.RebuildCounts.{run-counted}
 use Rattle.slotted_rebuilding.proofs.Runs.{runs-join, runs-work, runs-work_less}
 
 -- before the first turn

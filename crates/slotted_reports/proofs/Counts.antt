@@ -7,7 +7,7 @@ use Rattle.std.proofs.lemmas.Bool.{cases_lt}
 use Rattle.std.proofs.lemmas.List.{length-append}
 use Rattle.std.proofs.lemmas.List.Sums.{sum_by-cons}
 use Rattle.slotted_nodes.specs.Form.{counted}
-use Rattle.slotted_lookup.proofs.Reported.{next-passes}
+use Rattle.slotted_lookup.proofs.ReportLists.{next-passes}
 
 -- what is summed, and one number more
 sum-then : (f : ℕ → ℕ) (xs : List ℕ) (x : ℕ) → sum_by f (xs ++ x ∷ []) ≡ sum_by f xs + f x

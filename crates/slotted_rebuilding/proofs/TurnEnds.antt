@@ -24,7 +24,7 @@ use Rattle.slotted_unions.proofs.KeptSlots.{grows-then}
 use Rattle.slotted_hashcons.specs.WellFiled.{state_in, IsWellFiled, IsKeyed}
 use Rattle.slotted_rebuilding.specs.Filed.{UnitesFiled}
 use Rattle.slotted_rebuilding.specs.Turns.{ProvesCongruence, TakesTurns}
-use Rattle.slotted_rebuilding.proofs.EnteredCongruences.{proved-well, proved-turn, congruence-in, stands-within}
+use Rattle.slotted_rebuilding.proofs.CongruenceEntries.{proved-well, proved-turn, congruence-in, stands-within}
 use Rattle.slotted_rebuilding.proofs.FiledStates.{united-well}
 use Rattle.slotted_rebuilding.proofs.Runs.{turn-sane}
 

@@ -28,7 +28,7 @@ use Rattle.slotted_classes.proofs.ChildIds.{Each, Each-append, Each-from_All, at
 use Rattle.slotted_hashcons.specs.NormalNodes.{HasFindableChildren}
 use Rattle.slotted_hashcons.proofs.FoundChildren.{Each-at, child_ids-valid}
 use Rattle.slotted_lookup.specs.Filling.{HasFullChildren, HasOneNormalForm, MakesAtMost, RunsOut, with_fresh, filled_id, filled_ids, filled_node, missing, missing_in, missing_of, tree_over, names_over, node_over}
-use Rattle.slotted_lookup.proofs.FilledIds.{FillsNew, Knows, knows, all_known, known-apart, filled-new, new-renamed, filled-found, filled-known, filled-whole, with_fresh-more}
+use Rattle.slotted_lookup.proofs.IdFillings.{FillsNew, Knows, knows, all_known, known-apart, filled-new, new-renamed, filled-found, filled-known, filled-whole, with_fresh-more}
 use Rattle.slotted_lookup.proofs.NodesOver.{over_fits, names_fit, child_ids-over, node_over-own}
 
 -- ids in turn

@@ -22,7 +22,7 @@ use Rattle.slotted_classes.proofs.NameMaps.{In-key}
 use Rattle.slotted_languages.specs.Sizes.{args_size, node_size}
 use Rattle.slotted_languages.proofs.NodeSizes.{names_in}
 use Rattle.slotted_lookup.specs.Filling.{HasFullChildren, lack, lacked, named, filled_id, filled_ids, filled_node, missing, missing_in, missing_of, tree_over, names_over, node_over}
-use Rattle.slotted_lookup.proofs.FilledChildren.{length-filled}
+use Rattle.slotted_lookup.proofs.ChildFillings.{length-filled}
 use Rattle.slotted_lookup.proofs.NodesOver.{length-over, over_fits, child_ids-over}
 
 -- slots without a name
