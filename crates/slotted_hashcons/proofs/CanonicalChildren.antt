@@ -1,7 +1,6 @@
 -- Canonical nodes are over ids that find.
 use Rattle.std.proofs.Common.{◌≡◌, ◌<◌, ℕ, length, sym, subst, arith}
 use Rattle.slotted_theory.specs.Nameless.{DTerm}
-use Rattle.slotted_languages.specs.NodeTerm.{nameless_node}
 use Rattle.slotted_model.specs.Applied.{EachChild}
 use Rattle.slotted_model.specs.Classes.{Canonical, IsFull, canonical_node}
 use Rattle.slotted_model.specs.Find.{Linked}

@@ -16,11 +16,9 @@
 --     HasOneNormalForm k f g     g has the normal form of f
 use Rattle.std.specs.Prelude.{◌≡◌, ℕ, ◌+◌, ◌<◌, ◌≤◌, List, [], ◌∷◌, ◌++◌, length, take, drop, slice_index, Option, Some, None, unwrap_or, All}
 use Rattle.std.specs.List.{zip}
-use Rattle.slotted_theory.specs.Term.{Term}
 use Rattle.slotted_slots.specs.Maps.{value_of, keys, values}
 use Rattle.slotted_slots.specs.Table.{Table, AllKnown, fresh_slot, slot_limit}
 use Rattle.slotted_nodes.specs.Form.{Form, Tree, leaf, own, child, bind, scopes, children}
-use Rattle.slotted_languages.specs.Filled.{filled}
 use Rattle.slotted_languages.specs.NodeTerm.{nameless_node}
 use Rattle.slotted_model.specs.Applied.{Applied}
 use Rattle.slotted_model.specs.Classes.{canonical_slots, IsFull}

@@ -3,7 +3,7 @@
 --     binder_count d    how many binders
 --     HasLargeNode g    a canonical node has 2^30 places or more
 --     IsNodeOf g a f    f is the canonical node of an id's class, with the names of the id put in
-use Rattle.std.specs.Prelude.{◌≡◌, ℕ, ◌+◌, ◌^◌, ◌<◌, ◌≤◌, List, length}
+use Rattle.std.specs.Prelude.{ℕ, ◌+◌, ◌^◌, ◌<◌, ◌≤◌, List, length}
 use Rattle.slotted_theory.specs.Nameless.{DArgs, DTerm, stop, place, sub, scope}
 use Rattle.slotted_model.specs.Classes.{canonical_node}
 pub use Rattle.slotted_rebuilding.specs.Named.{IsNodeOf}

@@ -1,9 +1,8 @@
 //! Maps of names that a new class takes, and what ids and nodes are tested for.
 ghost use Rattle.std.specs.Prelude.{◌≡◌, ◌↔◌, ◌+◌, ◌≤◌, ◌^◌, ℕ, length, Contains, IsTrue, IfErr, OnOk};
 ghost use Rattle.slotted_theory.specs.FiniteMaps.{IsInjectiveMap};
-ghost use Rattle.slotted_slots.specs.Table.{AllKnown};
+ghost use Rattle.slotted_slots.specs.Table.{AllKnown, KnowsMore};
 ghost use Rattle.slotted_slots.specs.Maps.{keys, values};
-ghost use Rattle.slotted_slots.specs.Table.{KnowsMore};
 ghost use Rattle.slotted_nodes.specs.Form.{IsSmall};
 ghost use Rattle.slotted_model.specs.Ascending.{ascending, IsAscending};
 ghost use Rattle.slotted_classes.specs.Names.{fresh_slots};

@@ -1,5 +1,5 @@
 //! The equation that a union asserts: that of its two ids, whatever names are filled in for those that they lack.
-ghost use Rattle.std.specs.Prelude.{◌≡◌, ◌↔◌, IsTrue, IfErr, IfOk, IsErrOf};
+ghost use Rattle.std.specs.Prelude.{◌↔◌, IsTrue, IfErr, IfOk, IsErrOf};
 ghost use Rattle.slotted_theory.specs.FiniteMaps.{IsInjectiveMap};
 ghost use Rattle.slotted_slots.specs.Error.{IsShortage};
 ghost use Rattle.slotted_model.specs.Applied.{keys};
