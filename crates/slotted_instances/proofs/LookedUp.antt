@@ -28,7 +28,7 @@ use Rattle.slotted_hashcons.specs.WellFiled.{state_in}
 use Rattle.slotted_lookup.specs.Filling.{node_over}
 use Rattle.slotted_lookup.proofs.NodesOver.{child_ids-over, beside-over, length-over}
 use Rattle.slotted_operations.proofs.Additions.TermNodes.{places-known}
-use Rattle.slotted_operations.proofs.Terms.Layers.{each_at}
+use Rattle.slotted_operations.proofs.TermsOverIds.Layers.{each_at}
 use Rattle.slotted_operations.proofs.LookUps.States.{looked_up-is, tree-is}
 use Rattle.slotted_operations.proofs.LookUps.Subterms.{Looked, children_found, looked-args}
 use Rattle.slotted_operations.proofs.Graphs.AtRest.{at-rest}

@@ -15,8 +15,8 @@ use Rattle.slotted_classes.proofs.ChildIds.{Each, Each-from_All, zip-keys_values
 use Rattle.slotted_classes.proofs.NameMaps.{length-keys, length-values}
 use Rattle.slotted_lookup.specs.Filling.{tree_over, names_over, node_over}
 use Rattle.slotted_lookup.proofs.NodesOver.{names_fit, over_fits}
-use Rattle.slotted_operations.proofs.Terms.Children.{plugs}
-use Rattle.slotted_operations.proofs.Terms.Layers.{each_at}
+use Rattle.slotted_operations.proofs.TermsOverIds.Children.{plugs}
+use Rattle.slotted_operations.proofs.TermsOverIds.Layers.{each_at}
 use Rattle.slotted_model_rules.specs.Matcher.{an_id, a_binder}
 use Rattle.slotted_model_rules.specs.ReplacedIds.{HasOtherIds}
 use Rattle.slotted_rule_patterns.specs.NodeArguments.{args_of, node_arguments}

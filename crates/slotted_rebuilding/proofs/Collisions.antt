@@ -23,7 +23,7 @@ use Rattle.slotted_unions.proofs.KeptSlots.{grows-then}
 use Rattle.slotted_hashcons.specs.WellFiled.{state_in, IsKeyed, IsWellFiled}
 use Rattle.slotted_rebuilding.specs.Turns.{NarrowsTo, SharesKey, TakesTurns}
 use Rattle.slotted_languages.proofs.KeysByShapes.{one-key}
-use Rattle.slotted_rebuilding.proofs.Narrowing.{filed-places, waiting-within}
+use Rattle.slotted_rebuilding.proofs.NormalNodes.{filed-places, waiting-within}
 use Rattle.slotted_rebuilding.proofs.Runs.{runs-join}
 use Rattle.slotted_hashcons.proofs.StaleRows.{stale-found}
 use Rattle.slotted_rebuilding.proofs.TurnEnds.{refiles-node}

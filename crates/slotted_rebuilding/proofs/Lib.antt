@@ -8,7 +8,7 @@ pub mod FiledStates
 pub mod LargeClasses
 pub mod CongruenceEntries
 pub mod TurnEnds
-pub mod Narrowing
+pub mod NormalNodes
 pub mod FiledUnions
 pub mod SymmetryActs
 pub mod Collisions

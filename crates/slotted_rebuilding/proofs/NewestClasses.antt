@@ -36,7 +36,7 @@ use Rattle.slotted_rebuilding.proofs.Collisions.{found-shape, has-key}
 use Rattle.slotted_rebuilding.proofs.RebuildCounts.{rebuild-fits}
 use Rattle.slotted_rebuilding.proofs.CongruenceEntries.{congruence-in, proved-well, stands-within}
 use Rattle.slotted_rebuilding.proofs.FiledStates.{united-well}
-use Rattle.slotted_rebuilding.proofs.Narrowing.{filed-places}
+use Rattle.slotted_rebuilding.proofs.NormalNodes.{filed-places}
 use Rattle.slotted_rebuilding.proofs.NewRows.{HasNoTwinRow, new_row-sane}
 use Rattle.slotted_rebuilding.proofs.Runs.{runs-join, runs-sane}
 use Rattle.slotted_rebuilding.proofs.TurnEnds.{each-refiled}

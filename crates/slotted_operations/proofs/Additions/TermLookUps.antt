@@ -40,7 +40,7 @@ use Rattle.slotted_operations.proofs.CallerLemmas.{known_later}
 use Rattle.slotted_operations.proofs.Additions.FiledSubterms.{of_child}
 use Rattle.slotted_operations.proofs.Ids.ValidIds.{renamed-findable}
 use Rattle.slotted_operations.proofs.LookUps.FoundNames.{free_from}
-use Rattle.slotted_operations.proofs.Terms.Layers.{each_at, whole_count}
+use Rattle.slotted_operations.proofs.TermsOverIds.Layers.{each_at, whole_count}
 use Rattle.slotted_operations.proofs.LookUps.FoundIds.{answer-name}
 use Rattle.slotted_operations.proofs.LookUps.Subterms.{Looked, children_found, looked-args}
 use Rattle.slotted_operations.proofs.Graphs.AtRest.{at-rest}

@@ -27,7 +27,7 @@ use Rattle.slotted_operations.proofs.Ids.CanonicalTerms.{children-below, places-
 use Rattle.slotted_classes.proofs.ChildIds.{length-ids}
 use Rattle.slotted_operations.proofs.LookUps.FoundNames.{In-take, In-drop}
 use Rattle.slotted_classes.proofs.NameMaps.{In-at, at_In}
-use Rattle.slotted_operations.proofs.Terms.ValidTerms.{valid_term}
+use Rattle.slotted_operations.proofs.TermsOverIds.ValidTerms.{valid_term}
 
 -- the children are full
 pub children-full : (nodes : List DTerm) → Canonical nodes → (a : Applied) → IsFull nodes a → (f : Form) → Fits f → nameless_node f ≡ moved (filled a.1) (canonical_node nodes a.0) → All (IsFull nodes) (child_ids f)

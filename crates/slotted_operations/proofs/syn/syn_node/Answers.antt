@@ -16,7 +16,7 @@ use Rattle.slotted_classes.specs.Kept.{nodes_of}
 use Rattle.slotted_operations.specs.Nodes.{child_ids}
 use Rattle.slotted_proofs.specs.Equations.{to_applied}
 use Rattle.slotted_operations.specs.Syn.{KnowsSlotsAnd, node_binders}
-use Rattle.slotted_operations.proofs.Terms.Binders.{binders_counted}
+use Rattle.slotted_operations.proofs.TermsOverIds.Binders.{binders_counted}
 use Rattle.slotted_operations.proofs.Graphs.FreshSlots.{stored-known}
 use Rattle.slotted_operations.proofs.Ids.NodesOfIds.{children-full, given-size, made-by_binders, lacked-by_binders, err-no_ok}
 use Rattle.slotted_classes.proofs.KeptLists.{length-nodes_of}

@@ -7,7 +7,7 @@ use Rattle.slotted_rebuilding.proofs.Collisions.{found-shape}
 use Rattle.slotted_rebuilding.proofs.CongruenceEntries.{proved-count, proved-large, proved-within}
 use Rattle.slotted_rebuilding.proofs.FiledStates.{first-still}
 use Rattle.slotted_rebuilding.proofs.LargeClasses.{same-error}
-use Rattle.slotted_rebuilding.proofs.Narrowing.{first-waits, waiting-within}
+use Rattle.slotted_rebuilding.proofs.NormalNodes.{first-waits, waiting-within}
 use Rattle.slotted_rebuilding.proofs.TurnEnds.{collides}
 use Rattle.slotted_rebuilding.proofs.turning.collide.Goals as goal
 

@@ -13,8 +13,8 @@ use Rattle.slotted_terms.specs.Valid.{IsWhole, HasKnownNames, IsValidTerm}
 use Rattle.slotted_operations.specs.Nodes.{IsChildPlace}
 use Rattle.slotted_operations.specs.SmallNodes.{HasSmallNodes, HasSmallParts}
 use Rattle.slotted_classes.proofs.ChildIds.{Each}
-use Rattle.slotted_operations.proofs.Terms.Children.{at-left, at-right}
-use Rattle.slotted_operations.proofs.Terms.Layers.{Each-parts, length-parts}
+use Rattle.slotted_operations.proofs.TermsOverIds.Children.{at-left, at-right}
+use Rattle.slotted_operations.proofs.TermsOverIds.Layers.{Each-parts, length-parts}
 
 get-none : (j : ℕ) → ◌≡◌ {A = ℕ} (get_or [] j 0) 0
 get-none zero = refl
