@@ -11,7 +11,7 @@ use Rattle.slotted_patterns.specs.Shape.{Shape, over, named, replaced, Shapes, n
 use Rattle.slotted_patterns.specs.declared.pattern.Pattern.{Pattern, ENode, Subst}
 use Rattle.slotted_patterns.proofs.Shapes.{count-shapes, head-ENode, heads-opened, shape-Subst, shape_parts-ENode}
 
-same_number : (k j : ℕ) → nat_eq k j ≡ true → k ≡ j
+pub same_number : (k j : ℕ) → nat_eq k j ≡ true → k ≡ j
 same_number k j h = search (rules, h)
 
 module _ {N : Type 0} (E : N → N → Bool) where
@@ -69,7 +69,7 @@ module _ {N : Type 0} (E : N → N → Bool) where
   abbrev pub rows_eq : Shapes N → Shapes N → Bool
   rows_eq r q = same (heads_in r) (heads_in q)
 
-  rows_eq-more : (s t : Shape N) (r q : Shapes N) → shape_count r ≡ shape_count q → rows_eq (one_and s r) (one_and t q) ≡ (shape_eq E s t && rows_eq r q)
+  pub rows_eq-more : (s t : Shape N) (r q : Shapes N) → shape_count r ≡ shape_count q → rows_eq (one_and s r) (one_and t q) ≡ (shape_eq E s t && rows_eq r q)
   rows_eq-more s t r q k =
       both_ways (rows_eq (one_and s r) (one_and t q)) (shape_eq E s t && rows_eq r q)
       (λ h. let rows = parted-rows r q (heads s) (heads t) k h in λ i. rows.1 i && rows.0 i)

@@ -22,4 +22,5 @@ pub mod Folds
 pub mod PatternCopies
 pub mod Shapes
 pub mod ComparedShapes
+pub mod EqualTrees
 pub mod PieceTexts

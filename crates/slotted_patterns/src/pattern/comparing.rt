@@ -1,9 +1,10 @@
 //! Patterns are compared and hashed along lists of the patterns inside them. Only where memory for these is refused, a call goes down a pattern by
 //! calls of itself.
-ghost use Rattle.std.specs.Prelude.{◌≡◌, map, fold, flat_map};
+ghost use Rattle.std.specs.Prelude.{◌≡◌, ◌↔◌, IsTrue, map, fold, flat_map};
 ghost use Rattle.std.specs.Cmp.Lexicographic.{pointwise};
 ghost use Rattle.slotted_patterns.specs.Compared.{head_eq, head_input, pattern_eq, pattern_equiv, pattern_input, pattern_per, patterns_alike};
 ghost use Rattle.slotted_patterns.specs.Shape.{head, shape};
+ghost use Rattle.slotted_patterns.specs.View.{tree_of};
 
 use super::{Pattern, all_inside};
 use slotted_languages::language::Language;
@@ -70,17 +71,27 @@ fn equal_by_calls<L: Language>(one: &Pattern<L>, two: &Pattern<L>) -> bool
     }
 }
 
+// Whether two patterns are equal.
+fn equal<L: Language>(one: &Pattern<L>, two: &Pattern<L>) -> bool
+    ensures { result ≡ pattern_eq L.eq one.now two.now }
+{
+    let alloc = one.allocator();
+    match (all_inside(alloc, one), all_inside(alloc, two)) {
+        (Ok(ones), Ok(twos)) => same_lists(&ones, &twos),
+        _ => equal_by_calls(one, two),
+    }
+}
+
 impl<L: Language> PartialEq for Pattern<L> {
     ghost eq = { pattern_eq L.eq };
 
     ghost laws = { pattern_per L.PartialEq.laws };
 
-    fn eq(&self, other: &Self) -> bool {
-        let alloc = self.allocator();
-        match (all_inside(alloc, self), all_inside(alloc, other)) {
-            (Ok(ones), Ok(twos)) => same_lists(&ones, &twos),
-            _ => equal_by_calls(self, other),
-        }
+    fn eq(&self, other: &Self) -> bool
+        ensures value { result ≡ pattern_eq L.eq self.now other.now }
+        ensures means { IsTrue result ↔ tree_of L.form self.now ≡ tree_of L.form other.now }
+    {
+        equal(self, other)
     }
 }
 
