@@ -1,4 +1,4 @@
-//! Data of a graph without classes, which is carried along: what `carry` asks can be met from the beginning.
+//! Data of a graph without classes, which is carried along. What `carry` requires can be met from the beginning.
 ghost use Rattle.std.specs.Prelude.{◌≡◌, IfOk};
 ghost use Rattle.slotted_classes.specs.Kept.{nothing};
 ghost use Rattle.slotted_hashcons.specs.FiledRows.{no_rows};
@@ -14,7 +14,7 @@ use slotted_slots::Error;
 use slotted_small::Small;
 use std::alloc::Global;
 
-/// The data of no class, carried once.
+/// Returns the data of a graph without classes, carried once.
 pub fn carried_nothing(alloc: Global) -> Result<ClassData<Fold>, Error>
     ensures { IfOk result (DataRests (by_bare_nodes fold) nothing no_rows) }
 {

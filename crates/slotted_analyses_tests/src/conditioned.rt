@@ -2,7 +2,7 @@
 use slotted_const_fold::Fold;
 use slotted_rules::DataTest;
 
-/// The test whether a class is known to come to this number.
+/// The test whether the value of a class is known to be this number.
 #[derive(Drop, Debug)]
 pub struct ComesTo {
     pub number: u32,

@@ -1,4 +1,4 @@
-//! The turns that data takes are counted as a rebuild.
+//! The turns that are taken for data count as a rebuild.
 use crate::graphs::{empty, put, tower};
 use slotted_classes::RebuildCount;
 use slotted_const_fold::ConstFold;
@@ -7,7 +7,7 @@ use slotted_slots::Error;
 use slotted_small::Small;
 use std::alloc::Global;
 
-// Two terms are equal, and no class is modified.
+// Unites two terms, and modifies no class.
 fn unite_quietly(
     graph: &mut EGraph<Small, ConstFold>,
     left: &str,
@@ -22,7 +22,7 @@ fn unite_quietly(
     Ok(())
 }
 
-// What the last rebuild did after x under so many sums was united with 5, and by how much both totals rose.
+// Returns what the last rebuild did, and by how much both totals rose, after x under so many sums was united with 5.
 fn counted(
     alloc: Global,
     graph: &mut EGraph<Small, ConstFold>,
@@ -45,7 +45,7 @@ fn each_sum_takes_a_turn(rt: HostRuntime) -> Result<(), Error> {
     let alloc = rt.alloc();
     let mut graph = empty(alloc, ConstFold)?;
     let (last, turns, bound) = counted(alloc, &mut graph, 20)?;
-    // There are 23 nodes in 22 live classes, each of which has a number. Each sum had no number before.
+    // The graph has 23 e-nodes in 22 live classes, each with a number. No sum had a number before.
     assert!(&rt; last.turns == 20 && last.nodes == 23);
     assert!(&rt; last.size_after == 44 && last.size_before == 64);
     assert!(&rt; turns >= 20 && turns as u128 <= bound);

@@ -1,4 +1,4 @@
-//! What the worked analyses make, merge and ask, through their bound.
+//! Data, merges and edits of the worked analyses, by the bound `Analysis`.
 use crate::carried::carried_nothing;
 use crate::least_binders::LeastBinders;
 use crate::least_size::LeastSize;
@@ -9,12 +9,12 @@ use slotted_slots::{AppliedId, Error, Id, SlotMap};
 use slotted_small::Small;
 use std::alloc::Global;
 
-// A child without slots.
+// Returns a child without slots.
 fn child(alloc: Global, class: usize) -> AppliedId {
     AppliedId::new(Id(class), SlotMap::new(alloc))
 }
 
-// What a node makes, if there is data for each of its children.
+// Returns what an e-node makes, if there is data for each of its children.
 fn made<N: Analysis<Small>>(
     alloc: Global,
     analysis: &N,
@@ -27,7 +27,7 @@ fn made<N: Analysis<Small>>(
     Ok(Some(analysis.make(alloc, node, data)?))
 }
 
-// What two data come to, and how often that can still change.
+// Returns the merge of two data, and how often the merge can still change.
 fn merged<N: Analysis<Small>>(
     alloc: Global,
     analysis: &N,
@@ -39,7 +39,7 @@ fn merged<N: Analysis<Small>>(
     Ok((data, height))
 }
 
-// How many edits are asked.
+// Returns how many edits are asked.
 fn asked<N: Analysis<Small>>(alloc: Global, analysis: &N, data: &N::Data) -> Result<usize, Error> {
     Ok(analysis.modify(alloc, data, &[])?.len())
 }

@@ -1,4 +1,4 @@
-//! Graphs that keep data, told by texts.
+//! Graphs that keep data, and are changed by texts.
 use crate::least_binders::LeastBinders;
 use crate::least_size::LeastSize;
 use crate::refusing::Refusing;
@@ -9,7 +9,7 @@ use slotted_slots::{AppliedId, Error, SlotTable};
 use slotted_small::Small;
 use std::alloc::Global;
 
-// A graph without classes.
+// Returns a graph without classes.
 pub(crate) fn empty<N: Analysis<Small>>(
     alloc: Global,
     analysis: N,
@@ -17,7 +17,7 @@ pub(crate) fn empty<N: Analysis<Small>>(
     EGraph::new(alloc, SlotTable::new(alloc), analysis)
 }
 
-// The id of the term that a text writes.
+// Adds the term of a text. Returns its id.
 pub(crate) fn put<N: Analysis<Small>>(
     graph: &mut EGraph<Small, N>,
     text: &str,
@@ -26,7 +26,7 @@ pub(crate) fn put<N: Analysis<Small>>(
     graph.add_expr(&term)
 }
 
-// Two terms are equal.
+// Unites two terms.
 pub(crate) fn unite<N: Analysis<Small>>(
     graph: &mut EGraph<Small, N>,
     left: &str,
@@ -41,7 +41,7 @@ pub(crate) fn unite<N: Analysis<Small>>(
     Ok(())
 }
 
-// The data of a term's class.
+// Returns the data of a term's class.
 pub(crate) fn datum<N: Analysis<Small>>(
     alloc: Global,
     graph: &mut EGraph<Small, N>,
@@ -54,7 +54,7 @@ pub(crate) fn datum<N: Analysis<Small>>(
     graph.analysis().copy(alloc, graph.analysis_data(a.id))
 }
 
-// A value is merged into the data of a term's class.
+// Merges a value into the data of a term's class.
 pub(crate) fn merge<N: Analysis<Small>>(
     graph: &mut EGraph<Small, N>,
     text: &str,
@@ -67,7 +67,7 @@ pub(crate) fn merge<N: Analysis<Small>>(
     graph.merge_analysis_data(a.id, value)
 }
 
-// The data of a term's class, once these pairs of terms are equal.
+// Returns the data of a term's class, after these pairs of terms were united.
 fn asked<N: Analysis<Small>>(
     alloc: Global,
     graph: &mut EGraph<Small, N>,
@@ -80,7 +80,7 @@ fn asked<N: Analysis<Small>>(
     datum(alloc, graph, text)
 }
 
-// The same in a graph of its own.
+// Returns the same for a graph of its own.
 fn told<N: Analysis<Small>>(
     alloc: Global,
     analysis: N,
@@ -91,7 +91,7 @@ fn told<N: Analysis<Small>>(
     asked(alloc, &mut graph, equal, text)
 }
 
-// So many sums over x, one over another, each of which adds 1.
+// Returns the text of so many sums over x, one over another, each of which adds 1.
 pub(crate) fn tower(alloc: Global, sums: usize) -> Result<String, Error> {
     let mut text = String::new(alloc);
     for _ in 0..sums {
@@ -181,7 +181,8 @@ fn the_fewest_binders_go_upwards(rt: HostRuntime) -> Result<(), Error> {
     Ok(())
 }
 
-// A value is merged into the data of x, under a sum: the data of the sum, and that of x after it was merged again.
+// Merges a value into the data of x, under a sum. Returns the data of the sum, and that of x after the value was merged
+// again.
 fn merging(alloc: Global, graph: &mut EGraph<Small, ConstFold>) -> Result<(Fold, Fold), Error> {
     put(graph, "(add x 1)")?;
     merge(graph, "x", &Fold::Number(7))?;
@@ -200,7 +201,8 @@ fn a_value_is_merged(rt: HostRuntime) -> Result<(), Error> {
     Ok(())
 }
 
-// How many classes are pending once a sum was added, and once a number is equal to a name, if no round is made.
+// Returns how many classes are pending after a sum was added, and after a number was united with a name, if no round is
+// made.
 fn pending<N: Analysis<Small>>(graph: &mut EGraph<Small, N>) -> Result<(usize, usize), Error> {
     graph.set_modify_rounds(0);
     put(graph, "(add 2 3)")?;
@@ -227,14 +229,14 @@ fn classes_that_are_never_modified_are_not_pending(rt: HostRuntime) -> Result<()
     Ok(())
 }
 
-// Whether a term is refused for want of memory, and any other afterwards because the graph has failed.
+// Returns whether a term is refused for want of memory, and any other afterwards because the graph has failed.
 fn is_refused(graph: &mut EGraph<Small, Refusing>) -> bool {
     let refused = matches!(put(graph, "(app a b)"), Err(Error::OutOfMemory));
     let later = matches!(put(graph, "a"), Err(Error::Failed));
     refused && graph.is_failed() && later
 }
 
-// The same in a graph of its own, whose analysis makes no more than this.
+// Returns the same for a graph of its own, whose analysis makes no more than this.
 fn refuses(alloc: Global, most: u32) -> Result<bool, Error> {
     let mut graph = empty(alloc, Refusing { most })?;
     Ok(is_refused(&mut graph))

@@ -1,4 +1,4 @@
-//! How many binders the term of a class has that has the fewest.
+//! The least number of binders among the terms of a class.
 ghost use Rattle.std.specs.Prelude.{◌≡◌, ◌+◌, sum, min};
 ghost use Rattle.slotted_analyses_tests.specs.LeastSize.{largest};
 
@@ -7,7 +7,8 @@ use slotted_slots::Error;
 use slotted_small::Small;
 use std::alloc::Global;
 
-/// The least number of binders of a term that is known of a class, or the largest number where there are more.
+/// The analysis that keeps the least number of binders of a term that is known of a class. If there are more, the data
+/// is the largest number.
 #[derive(Drop, Default)]
 pub struct LeastBinders;
 
@@ -56,7 +57,7 @@ impl Analysis<Small> for LeastBinders {
     }
 }
 
-// The sum of a number and of others, or the largest number.
+// Returns the sum of a number and of others, or the largest number.
 fn added(first: u32, others: &[u32]) -> u32
     ensures { result ≡ min (first + sum others.now) largest }
 {

@@ -1,4 +1,4 @@
-//! How many nodes the smallest term of a class has.
+//! The number of e-nodes of the smallest term of a class.
 ghost use Rattle.std.specs.Prelude.{◌≡◌, suc, sum, min};
 ghost use Rattle.slotted_analyses_tests.specs.LeastSize.{largest, least_size};
 
@@ -7,7 +7,8 @@ use slotted_languages::Language;
 use slotted_slots::Error;
 use std::alloc::Global;
 
-/// The number of nodes of the smallest term that is known of a class, or the largest number where there are more.
+/// The analysis that keeps the number of e-nodes of the smallest term that is known of a class. If there are more, the
+/// data is the largest number.
 #[derive(Drop, Default)]
 pub struct LeastSize;
 
@@ -53,7 +54,7 @@ impl<L: Language> Analysis<L> for LeastSize {
     }
 }
 
-// One more than the sum, or the largest number.
+// Returns one more than the sum, or the largest number.
 fn size_over(child: &[u32]) -> u32
     ensures { result ≡ min (suc (sum child.now)) largest }
 {

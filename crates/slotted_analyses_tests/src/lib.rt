@@ -1,5 +1,7 @@
-//! Worked analyses: the least size of a class over any language, the least number of its binders, and tests of these,
-//! of constant folding, and of rules that ask what is known of a class.
+//! Worked analyses, and tests of data.
+//!
+//! The analyses are the least size of a class over any language, and the least number of its binders. Tested are these,
+//! constant folding, and rules whose conditions read the data of a class.
 #![tactic(auto)]
 
 pub mod carried;

@@ -1,4 +1,4 @@
-//! An analysis that asks that 1 equals 2 once a class has a variable.
+//! An analysis by which 1 equals 2 once a class has a variable.
 ghost use Rattle.std.specs.Prelude.{◌≡◌};
 ghost use Rattle.slotted_const_fold.specs.ConstFold.{number_term};
 
@@ -8,7 +8,7 @@ use slotted_small::Small;
 use slotted_terms::RecExpr;
 use std::alloc::Global;
 
-/// A class whose e-nodes have a variable asks that 1 equals 2.
+/// The analysis by which a class with a variable asks that 1 equals 2.
 #[derive(Drop, Default)]
 pub struct Marking;
 
@@ -73,7 +73,7 @@ impl Analysis<Small> for Marking {
     }
 }
 
-// The term of a number.
+// Returns the term of a number.
 fn number(alloc: Global, n: u32) -> RecExpr<Small>
     ensures { result ≡ number_term n }
 {

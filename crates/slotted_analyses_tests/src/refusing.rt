@@ -5,7 +5,7 @@ use slotted_languages::Language;
 use slotted_slots::Error;
 use std::alloc::Global;
 
-/// The least size, where `make` refuses a size above the most.
+/// The least size, but `make` refuses a size above the most.
 #[derive(Drop)]
 pub struct Refusing {
     pub most: u32,

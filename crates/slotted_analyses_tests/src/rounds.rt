@@ -8,7 +8,7 @@ use slotted_slots::Error;
 use slotted_small::Small;
 use std::alloc::Global;
 
-// Whether two terms are found equal.
+// Returns whether two terms are found equal.
 fn are_equal<N: Analysis<Small>>(
     graph: &mut EGraph<Small, N>,
     left: &str,
@@ -22,7 +22,7 @@ fn are_equal<N: Analysis<Small>>(
     graph.eq(&l, &r)
 }
 
-// Whether a number has a class.
+// Returns whether a number has a class.
 fn has_number<N: Analysis<Small>>(graph: &EGraph<Small, N>, number: u32) -> Result<bool, Error> {
     let node = Small::Number(number);
     if !graph.is_valid_node(&node) {
@@ -32,7 +32,7 @@ fn has_number<N: Analysis<Small>>(graph: &EGraph<Small, N>, number: u32) -> Resu
     Ok(found.is_some())
 }
 
-// Whether a sum of a product and the product equal their numbers.
+// Returns whether a sum of a product and the product equal their numbers.
 fn sums_are_numbers(graph: &mut EGraph<Small, ConstFold>) -> Result<bool, Error> {
     put(graph, "(add 2 (mul 2 3))")?;
     let product = are_equal(graph, "(mul 2 3)", "6")?;
@@ -49,7 +49,7 @@ fn sums_and_products_equal_their_numbers(rt: HostRuntime) -> Result<(), Error> {
     Ok(())
 }
 
-// Whether rounds leave no class that waits, and ask nothing again.
+// Returns whether rounds leave no class that waits, and ask nothing again.
 fn waits_no_more(alloc: Global, graph: &mut EGraph<Small, ConstFold>) -> Result<bool, Error> {
     put(graph, "(add 2 3)")?;
     let left = graph.modify_pending();
@@ -66,7 +66,7 @@ fn a_folded_class_waits_no_more(rt: HostRuntime) -> Result<(), Error> {
     Ok(())
 }
 
-// Whether fifty sums over x equal 55, once x equals 5.
+// Returns whether fifty sums over x equal 55, once x equals 5.
 fn sums_follow(alloc: Global, graph: &mut EGraph<Small, ConstFold>) -> Result<bool, Error> {
     let text = tower(alloc, 50)?;
     put(graph, &text)?;
@@ -83,7 +83,7 @@ fn a_number_makes_fifty_sums_numbers(rt: HostRuntime) -> Result<(), Error> {
     Ok(())
 }
 
-// Whether a value that is merged into the data of x is asserted, and that of a sum over x too.
+// Returns whether a value that is merged into the data of x is asserted, and that of a sum over x too.
 fn merged_is_asserted(alloc: Global, graph: &mut EGraph<Small, ConstFold>) -> Result<bool, Error> {
     put(graph, "(add x 3)")?;
     let none = datum(alloc, graph, "(add x 3)")? == Fold::None;
@@ -103,7 +103,8 @@ fn a_merged_number_is_asserted(rt: HostRuntime) -> Result<(), Error> {
     Ok(())
 }
 
-// Whether no number is made if no round is made, and the number of a sum with the next write once one round is.
+// Returns whether the limits of rounds hold. If no round is made, no number is made. If one round is made, the number
+// of a sum is made with the next write.
 fn limits_hold(alloc: Global, graph: &mut EGraph<Small, ConstFold>) -> Result<bool, Error> {
     graph.set_modify_rounds(0);
     put(graph, "(add 2 3)")?;
@@ -124,7 +125,7 @@ fn the_limit_of_rounds_holds(rt: HostRuntime) -> Result<(), Error> {
     Ok(())
 }
 
-// Whether a folded sum has the number as its smallest term.
+// Returns whether a folded sum has the number as its smallest term.
 fn least_is_the_number(alloc: Global, graph: &mut EGraph<Small, ConstFold>) -> Result<bool, Error> {
     let a = put(graph, "(add 2 (mul 2 3))")?;
     if !graph.is_valid(&a) {
@@ -144,7 +145,7 @@ fn a_folded_sum_has_a_least_term(rt: HostRuntime) -> Result<(), Error> {
     Ok(())
 }
 
-// Whether nothing is asked where nothing is kept.
+// Returns whether nothing is asked if nothing is kept.
 fn nothing_is_asked(graph: &mut EGraph<Small>) -> Result<bool, Error> {
     put(graph, "(add 2 3)")?;
     let asked = graph.modify()?;

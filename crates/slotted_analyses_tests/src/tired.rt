@@ -4,7 +4,7 @@ use slotted_languages::Language;
 use slotted_slots::{Error, Slot};
 use std::alloc::Global;
 
-/// Nothing is kept of a class, and what is to be done for one is refused for want of slots.
+/// The analysis that keeps nothing, and whose edits are refused for want of slots.
 #[derive(Drop, Default)]
 pub struct Tired;
 

@@ -1,4 +1,4 @@
-//! Rounds that turn what a term that is being added is looked up as, and rounds that are refused.
+//! Rounds that change what a term that is being added is looked up as, and rounds that are refused.
 use crate::graphs::{empty, put, unite};
 use crate::marking::Marking;
 use crate::tired::Tired;
@@ -6,7 +6,7 @@ use slotted_graph::EGraph;
 use slotted_slots::{Error, Id};
 use slotted_small::Small;
 
-// Whether a class that was made for a term is made again, since an edit turns what a child of the term is looked up as.
+// Returns whether a class of a term is added again, since an edit changes what a child of the term is looked up as.
 fn is_added_again(graph: &mut EGraph<Small, Marking>) -> Result<bool, Error> {
     unite(graph, "(app 1 (f $0 $1))", "(app 2 (f $1 $0))")?;
     let id = put(graph, "(app (app 1 (f $0 $1)) (var $0))")?;
@@ -24,7 +24,8 @@ fn a_term_is_added_again_after_edits(rt: HostRuntime) -> Result<(), Error> {
     Ok(())
 }
 
-// Whether a write is refused for want of slots because its edits are, and any later one because the graph has failed.
+// Returns whether a write is refused for want of slots because its edits are, and any later one because the graph has
+// failed.
 fn is_refused(graph: &mut EGraph<Small, Tired>) -> bool {
     let refused = matches!(put(graph, "(app a b)"), Err(Error::OutOfSlots));
     let later = matches!(put(graph, "a"), Err(Error::Failed));

@@ -1,4 +1,4 @@
-//! Products with a factor that comes to 1, told by texts.
+//! Products with a factor that is known to be 1.
 use crate::conditioned::ComesTo;
 use crate::graphs::{empty, put, unite};
 use slotted_analyses::Analysis;
@@ -9,7 +9,7 @@ use slotted_slots::Error;
 use slotted_small::Small;
 use std::alloc::Global;
 
-// The condition that a variable's class comes to 1.
+// Returns the condition that the class of a variable's value is known to be 1.
 fn is_unit(alloc: Global, variable: &str) -> Result<DataPasses<ComesTo>, Error> {
     let variable = String::from_str(alloc, variable)?;
     Ok(DataPasses {
@@ -18,7 +18,7 @@ fn is_unit(alloc: Global, variable: &str) -> Result<DataPasses<ComesTo>, Error> 
     })
 }
 
-// Applies one rule, if it can be handed to the graph.
+// Applies one rule, if the rule can be handed to the graph.
 fn apply_one<R: RewriteT<Small, ConstFold>>(
     alloc: Global,
     graph: &mut EGraph<Small, ConstFold>,
@@ -45,7 +45,7 @@ fn apply_under<C: Cond<Small, ConstFold>>(
     apply_one(alloc, graph, rule)
 }
 
-// The same, if the variable comes to 1.
+// Applies `(mul ?x ?y) => ?x` once, if the variable is known to be 1.
 fn apply_unit(
     alloc: Global,
     graph: &mut EGraph<Small, ConstFold>,
@@ -55,7 +55,7 @@ fn apply_unit(
     apply_under(alloc, graph, condition)
 }
 
-// Whether two terms are equal.
+// Returns whether two terms are equal.
 fn is_equal<N: Analysis<Small>>(
     graph: &mut EGraph<Small, N>,
     left: &str,
@@ -69,7 +69,8 @@ fn is_equal<N: Analysis<Small>>(
     graph.eq(&l, &r)
 }
 
-// Whether the rule changes anything, and the product is its factor then: before the other factor is known, and once it is.
+// Returns whether the rule changes anything, and whether the product is its factor then. Both are asked before the
+// other factor is known, and once that is known.
 fn told(
     alloc: Global,
     graph: &mut EGraph<Small, ConstFold>,
@@ -92,7 +93,7 @@ fn a_rule_reads_what_is_known_of_a_class(rt: HostRuntime) -> Result<(), Error> {
     Ok(())
 }
 
-// Whether a variable that the rule lacks is refused, and the graph can still be asked.
+// Returns whether a variable that the rule lacks is refused, and the graph can still be asked.
 fn is_refused(alloc: Global, graph: &mut EGraph<Small, ConstFold>) -> Result<bool, Error> {
     put(graph, "(mul a b)")?;
     let refused = matches!(

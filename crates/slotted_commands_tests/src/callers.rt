@@ -1,8 +1,8 @@
-//! The callers that `slotted_egraphs` has as examples.
+//! Tests of the example callers of `slotted_egraphs`.
 use slotted_egraphs::example::{add_again, is_filed_as, unite_and_ask};
 use slotted_egraphs::{EGraph, Error, SlotTable, Small};
 
-// Whether a node is filed as the id that it was added as.
+// Returns whether an e-node is looked up as the id that it was added as.
 fn is_filed(graph: &mut EGraph<Small>) -> Result<bool, Error> {
     let node = Small::Number(7);
     if !graph.is_valid_node(&node) {
@@ -17,7 +17,8 @@ fn is_filed(graph: &mut EGraph<Small>) -> Result<bool, Error> {
     }
 }
 
-// Two nodes over the same names are united, a term under a binder is added again, and a node is looked up.
+// Unites two e-nodes over the same names, adds a term under a binder again, and looks an e-node up. Returns whether all
+// answers are yes.
 fn all_hold(graph: &mut EGraph<Small>) -> Result<bool, Error> {
     let united = unite_and_ask(graph, "(f $x $y)", "(app (var $y) (var $x))")?;
     let again = add_again(graph, "(lam $x (app (var $x) (var $y)))")?;

@@ -1,4 +1,4 @@
-//! Terms that are nested deep. Memory is ample: no line is refused.
+//! Terms that are nested deep. Memory is ample, so no line is refused.
 use crate::streams::answer;
 use std::alloc::Global;
 use std::io;
@@ -7,7 +7,7 @@ use std::process::Abort;
 
 const LEVELS: usize = 100_000;
 
-// A word under so many applications.
+// Returns the text of a word under so many applications.
 fn nested(alloc: Global, word: &str) -> io::Result<String> {
     let mut term = String::new(alloc);
     for _ in 0..LEVELS {
@@ -20,7 +20,7 @@ fn nested(alloc: Global, word: &str) -> io::Result<String> {
     Ok(term)
 }
 
-// What is asked of two deep terms that differ in their word.
+// Returns the questions about two deep terms that differ in their word.
 fn lines(alloc: Global, term: &str, other: &str) -> io::Result<Vec<u8>> {
     let mut lines = Vec::new(alloc);
     writeln!(lines, "add {term}\nextract {term}\neq {term} == {other}")?;
@@ -31,7 +31,7 @@ fn lines(alloc: Global, term: &str, other: &str) -> io::Result<Vec<u8>> {
     Ok(lines)
 }
 
-// Each level has two nodes, and the word is one more.
+// Returns the answers. Each level has two e-nodes, and the word is one more.
 fn answers(alloc: Global, term: &str, other: &str) -> io::Result<Vec<u8>> {
     let mut answers = Vec::new(alloc);
     writeln!(answers, "ok\n200001 {term}\nno\ntrue\nyes")?;
@@ -52,7 +52,7 @@ fn deep_terms_are_answered(rt: HostRuntime) -> io::Result<()> {
     check(&rt, alloc, &nested(alloc, "b")?, &nested(alloc, "c")?)
 }
 
-// A rule between patterns of so many levels, and a question that it answers by yes.
+// Returns a rule between patterns of so many levels, and a question that the rule answers by yes.
 fn rule_lines(alloc: Global) -> io::Result<Vec<u8>> {
     let found = nested(alloc, "?x")?;
     let made = nested(alloc, "?y")?;
@@ -67,7 +67,7 @@ fn rule_lines(alloc: Global) -> io::Result<Vec<u8>> {
     Ok(lines)
 }
 
-// One turn leaves two e-nodes for each level, three words, a product and a sum.
+// Asserts that one turn leaves two e-nodes for each level, three words, a product and a sum.
 fn check_rule(rt: &impl Abort, alloc: Global) -> io::Result<()> {
     let mut output = Vec::new(alloc);
     answer(alloc, &rule_lines(alloc)?, &mut output)?;
@@ -82,7 +82,7 @@ fn deep_patterns_are_matched(rt: HostRuntime) -> io::Result<()> {
     check_rule(&rt, rt.alloc())
 }
 
-// A redex whose body has so many levels, and what it is equal to.
+// Returns a redex whose body has so many levels, and what the redex is equal to.
 fn beta_lines(alloc: Global) -> io::Result<Vec<u8>> {
     let body = nested(alloc, "(var $x)")?;
     let put_in = nested(alloc, "c")?;
@@ -98,7 +98,7 @@ fn beta_lines(alloc: Global) -> io::Result<Vec<u8>> {
     Ok(lines)
 }
 
-// One turn leaves two e-nodes for each level, two words, a variable, an abstraction and an application.
+// Asserts that one turn leaves two e-nodes for each level, two words, a variable, an abstraction and an application.
 fn check_beta(rt: &impl Abort, alloc: Global) -> io::Result<()> {
     let mut output = Vec::new(alloc);
     answer(alloc, &beta_lines(alloc)?, &mut output)?;

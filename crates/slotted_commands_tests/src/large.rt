@@ -1,4 +1,4 @@
-//! Many words, a long word and a term of many nodes. Memory is ample: no line is refused.
+//! Many words, a long word and a term of many e-nodes. Memory is ample, so no line is refused.
 use crate::streams::answer;
 use std::alloc::Global;
 use std::io;
@@ -7,7 +7,7 @@ use std::process::Abort;
 
 const WORDS: usize = 100_000;
 
-// Unites each word with the next one, and asks of the first and the last.
+// Returns lines that unite each word with the next one, and ask of the first and the last.
 fn chain(alloc: Global) -> io::Result<Vec<u8>> {
     let mut lines = Vec::new(alloc);
     for i in 1..WORDS {
@@ -19,7 +19,8 @@ fn chain(alloc: Global) -> io::Result<Vec<u8>> {
     Ok(lines)
 }
 
-// Each union was news, the ends are equal, another word is not, and the first word by its bytes is given out.
+// Returns the answers: each union was news, the ends are equal, another word is not, and the first word by its bytes is
+// extracted.
 fn chain_answers(alloc: Global) -> io::Result<Vec<u8>> {
     let mut answers = Vec::new(alloc);
     for _ in 1..WORDS {
@@ -29,7 +30,7 @@ fn chain_answers(alloc: Global) -> io::Result<Vec<u8>> {
     Ok(answers)
 }
 
-// Lines and their answers.
+// Asserts that lines have these answers.
 fn check(rt: &impl Abort, alloc: Global, lines: &[u8], answers: &[u8]) -> io::Result<()> {
     let mut output = Vec::new(alloc);
     answer(alloc, lines, &mut output)?;
@@ -43,7 +44,7 @@ fn many_words_are_united(rt: HostRuntime) -> io::Result<()> {
     check(&rt, alloc, &chain(alloc)?, &chain_answers(alloc)?)
 }
 
-// A word of 10,000 bytes and a last one.
+// Returns a word of 10,000 bytes and a last one.
 fn long_word(alloc: Global, last: &str) -> io::Result<String> {
     let mut word = String::new(alloc);
     for _ in 0..10_000 {
@@ -53,7 +54,7 @@ fn long_word(alloc: Global, last: &str) -> io::Result<String> {
     Ok(word)
 }
 
-// Two long words that differ in their last byte, and what they are called equal to.
+// Returns lines about two long words that differ in their last byte, and about the words that are equal to these.
 fn long_lines(alloc: Global, word: &str, other: &str) -> io::Result<Vec<u8>> {
     let mut lines = Vec::new(alloc);
     writeln!(lines, "eq {word} == {other}\nextract {other}")?;
@@ -97,7 +98,7 @@ fn repeat(out: &mut String, text: &str, count: u32) -> io::Result<()> {
     Ok(())
 }
 
-// The leaf of a tree of 2^13 leaves, with the brackets before and behind it.
+// Writes the leaf of a tree of 2^13 leaves, with the brackets before and behind.
 fn write_leaf(alloc: Global, out: &mut String, place: u32, word: &str) -> io::Result<()> {
     let opened = if place == 0 {
         13
@@ -113,7 +114,7 @@ fn write_leaf(alloc: Global, out: &mut String, place: u32, word: &str) -> io::Re
     repeat(out, ")", closed)
 }
 
-// A term of 16,383 nodes, whose leaves are different words. In the middle stands this one.
+// Returns a term of 16,383 e-nodes, whose leaves are different words. This word stands in the middle.
 fn tree(alloc: Global, middle: &str) -> io::Result<String> {
     let mut out = String::new(alloc);
     for place in 0..8192u32 {
@@ -126,7 +127,7 @@ fn tree(alloc: Global, middle: &str) -> io::Result<String> {
     Ok(out)
 }
 
-// What is asked of two trees that differ in one word, before both words are united and afterwards.
+// Returns questions about two trees that differ in one word, before both words are united and afterwards.
 fn tree_lines(alloc: Global, tree: &str, other: &str) -> io::Result<Vec<u8>> {
     let mut lines = Vec::new(alloc);
     writeln!(
@@ -137,7 +138,7 @@ fn tree_lines(alloc: Global, tree: &str, other: &str) -> io::Result<Vec<u8>> {
     Ok(lines)
 }
 
-// Of the two words `v` comes first.
+// Returns the answers. Of the two words `v` comes first.
 fn tree_answers(alloc: Global, tree: &str, other: &str) -> io::Result<Vec<u8>> {
     let mut answers = Vec::new(alloc);
     writeln!(

@@ -1,5 +1,7 @@
-//! What no line of text shows of the commands: streams that fail, bytes that are no text, answers that wait, refused
-//! memory, large inputs; and the callers of `slotted_egraphs`. They stand in a crate of their own, since a crate with tests is proved twice.
+//! Tests of the commands that no line of text shows.
+//!
+//! They are about streams that fail, bytes that are no text, answers that wait, refused memory, large inputs, and the
+//! callers of `slotted_egraphs`. They stand in a crate of their own, since a crate with tests is proved twice.
 #![tactic(auto)]
 
 #[cfg(test)]

@@ -12,12 +12,13 @@ pub fn answer<W: Write>(alloc: Global, mut lines: &[u8], output: &mut W) -> io::
     answer_session::<Small, &[u8], W>(alloc, &mut lines, output)
 }
 
-// Three lines, of which the last one lacks its line feed, and their answers.
+// Three lines, of which the last one has no line feed, and their answers.
 const LINES: &[u8] = b"add a\neq a == b\nadd b";
 
 const ANSWERS: &[u8] = b"ok\nno\nok\n";
 
-// Takes so many writes, of so many bytes at most, and so many flushes. Then it fails. Counts what it took up to each flush.
+// A writer that takes so many writes, of so many bytes at most, and so many flushes. Then it fails. The bytes up to
+// each flush are counted.
 #[derive(Drop)]
 struct Pipe {
     taken: Vec<u8>,
@@ -60,7 +61,7 @@ impl Write for Pipe {
     }
 }
 
-// Gives its bytes for so many reads, and then fails.
+// A reader that gives its bytes for so many reads, and then fails.
 #[derive(Drop)]
 struct Broken<'a> {
     bytes: &'a [u8],
@@ -84,7 +85,8 @@ fn bytes_that_are_no_text_end_it(rt: HostRuntime) {
     assert_eq!(rt; output.as_slice(), b"ok\n".as_slice());
 }
 
-// Answers the lines on a pipe. Says whether all ended well: then it took all answers, and else a beginning of them.
+// Answers the lines on a pipe. Returns whether all ended well: then the pipe took all answers, and else a beginning of
+// them.
 fn ends_well(rt: &impl Abort, alloc: Global, pipe: &mut Pipe) -> bool {
     let ends = answer(alloc, LINES, pipe).is_ok();
     assert!(rt; ANSWERS.starts_with(pipe.taken.as_slice()));
@@ -92,7 +94,7 @@ fn ends_well(rt: &impl Abort, alloc: Global, pipe: &mut Pipe) -> bool {
     ends
 }
 
-// How many writes are needed, if sixteen are enough.
+// Returns how many writes are needed, if sixteen are enough.
 fn writes_needed(rt: &impl Abort, alloc: Global) -> Option<usize> {
     for writes in 0..16usize {
         let mut output = Pipe::new(alloc, writes, usize::MAX, usize::MAX);
@@ -109,7 +111,7 @@ fn each_write_that_fails_ends_it(rt: HostRuntime) {
     assert!(rt; matches!(writes_needed(&rt, rt.alloc()), Some(3..=16)));
 }
 
-// Where a write takes one byte, the others are written again, and no byte is lost before one fails.
+// If a write takes one byte, the others are written again. No byte is lost before a write fails.
 #[test]
 fn short_writes_go_on(rt: HostRuntime) {
     for writes in 0..ANSWERS.len() {
@@ -150,12 +152,13 @@ fn answer_of_reads(alloc: Global, reads: usize, output: &mut Vec<u8>) -> io::Res
     answer_session::<Small, _, _>(alloc, &mut input, output)
 }
 
-// How many of these bytes are line feeds.
+// Returns how many of these bytes are line feeds.
 fn line_feeds(bytes: &[u8]) -> usize {
     bytes.iter().filter(|byte| **byte == b'\n').count()
 }
 
-// The lines that were read whole are answered. At the end of the bytes a read gives none: one ends the last line, and one the session.
+// The lines that were read whole are answered. At the end of the bytes a read gives none: one such read ends the last
+// line, and another one the session.
 #[test]
 fn each_read_that_fails_ends_it(rt: HostRuntime) {
     for reads in 0..LINES.len() + 2 {
@@ -190,7 +193,7 @@ fn reads_that_fail_end_it(rt: HostRuntime) -> Result<(), Fail> {
     Ok(())
 }
 
-// Over a pipe, an answer that is not written out keeps the one who asked waiting. The last line lacks its line feed.
+// If an answer is not written out, the one who asked over a pipe is kept waiting. The last line has no line feed.
 #[test]
 fn each_answer_is_written_out(rt: HostRuntime) {
     let mut output = Pipe::new(rt.alloc(), usize::MAX, usize::MAX, usize::MAX);

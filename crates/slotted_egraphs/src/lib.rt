@@ -1,6 +1,8 @@
 //! Slotted e-graphs with checked explanations: the crate that a user's crate names.
 //!
-//! It hands on what a user needs of the crates below, so a line `my_crate: slotted_egraphs` in crates.txt is enough.
+//! The crate hands on what a user needs of the crates below, so code needs just a line `my_crate: slotted_egraphs` in
+//! crates.txt. Proofs that name a type such as `Error` need its crate in the line too.
+//!
 //! CALLING.md beside this folder has the calls in the order in which a caller meets them, and [`example`] has callers,
 //! proved.
 #![tactic(auto)]

@@ -1,4 +1,4 @@
-// A cost by which products are dear.
+// A cost function by which products are dear.
 ghost use Rattle.std.specs.Prelude.{◌≡◌};
 ghost use Rattle.slotted_small.specs.Small.{small_form};
 ghost use Rattle.slotted_costs.specs.Costs.{bare_node};
@@ -11,7 +11,8 @@ use slotted_slots::Error;
 use slotted_small::Small;
 use std::alloc::Global;
 
-/// A product costs 5 and what its factors cost, each other node 1 and what its children cost, and none more than the largest number.
+/// The cost function by which a product costs 5 more than its factors, and each other e-node 1 more than its children.
+/// No cost is above the largest number.
 #[derive(Drop, Default)]
 pub struct DearProducts;
 
@@ -37,7 +38,7 @@ impl CostFunction<Small> for DearProducts {
     }
 }
 
-// What a node itself costs.
+// Returns the weight of an e-node itself.
 fn weight(node: &Small) -> u64
     ensures { result ≡ product_weight (bare_node (small_form node.now)) }
 {

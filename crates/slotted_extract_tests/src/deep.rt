@@ -1,5 +1,7 @@
-//! Graphs of many levels. What is extracted of them stands on a stack that grows by memory, and the machine's stays as it is; so it is taken
-//! apart here node by node, since letting go of a whole term goes down level by level.
+//! Graphs of many levels.
+//!
+//! Terms of them are extracted on a stack that grows by memory, so the machine's stack stays as it is. Each is taken
+//! apart e-node by e-node here, since dropping a whole term goes down level by level.
 use slotted_costs::AstSize;
 use slotted_explain::EGraph;
 use slotted_extract::Extractor;
@@ -9,7 +11,7 @@ use slotted_terms::expr::RecExpr;
 use std::alloc::Global;
 use std::process::Abort;
 
-// The id of a node, if it can be added.
+// Adds an e-node, if that is possible. Returns its id.
 fn put(graph: &mut EGraph<Small>, node: Small) -> Result<AppliedId, Error> {
     if graph.is_valid_node(&node) {
         graph.add(node)
@@ -18,13 +20,13 @@ fn put(graph: &mut EGraph<Small>, node: Small) -> Result<AppliedId, Error> {
     }
 }
 
-// A level over a class.
+// Adds a level over a class. Returns its id.
 fn level(alloc: Global, graph: &mut EGraph<Small>, below: &AppliedId) -> Result<AppliedId, Error> {
     let leaf = put(graph, Small::Number(7))?;
     put(graph, Small::App(below.copy(alloc)?, leaf))
 }
 
-// So many of them.
+// Adds so many levels over a class. Returns the id of the last one.
 fn levels(
     alloc: Global,
     graph: &mut EGraph<Small>,
@@ -38,7 +40,7 @@ fn levels(
     Ok(top)
 }
 
-// Unites two ids, if they can be asked.
+// Unites two ids, if they are valid.
 fn unite(graph: &mut EGraph<Small>, l: &AppliedId, r: &AppliedId) -> Result<bool, Error> {
     if graph.is_valid(l) && graph.is_valid(r) {
         graph.union(l, r)
@@ -47,7 +49,7 @@ fn unite(graph: &mut EGraph<Small>, l: &AppliedId, r: &AppliedId) -> Result<bool
     }
 }
 
-// The term of fewest nodes, if the id can be asked.
+// Returns the term of fewest e-nodes, if the id is valid.
 fn given(
     alloc: Global,
     graph: &mut EGraph<Small>,
@@ -61,7 +63,7 @@ fn given(
     }
 }
 
-// How many nodes a term has, or `most` if it has more.
+// Returns how many e-nodes a term has, or `most` if it has more.
 fn node_count(alloc: Global, term: RecExpr<Small>, most: usize) -> Result<usize, Error> {
     let mut left = Vec::new(alloc);
     left.push(term)?;
@@ -77,7 +79,8 @@ fn node_count(alloc: Global, term: RecExpr<Small>, most: usize) -> Result<usize,
     Ok(most)
 }
 
-// A class with `count` levels over a first one, and one level more, which is the first class again where they go round.
+// Returns a class with `count` levels over a first one. If the levels go round, one level more is the first class
+// again.
 fn class_of_levels(
     alloc: Global,
     graph: &mut EGraph<Small>,
@@ -93,7 +96,7 @@ fn class_of_levels(
     Ok(last)
 }
 
-// Two nodes are extracted for each level, and one for the first class.
+// Asserts that two e-nodes are extracted for each level, and one for the first class.
 fn check_in(
     rt: &impl Abort,
     alloc: Global,
@@ -107,7 +110,7 @@ fn check_in(
     Ok(())
 }
 
-// The same in a new graph.
+// Asserts the same for a new graph.
 fn check(rt: &impl Abort, alloc: Global, round: bool) -> Result<(), Error> {
     let mut graph: EGraph<Small> = EGraph::new(alloc, SlotTable::new(alloc), ())?;
     check_in(rt, alloc, &mut graph, round)

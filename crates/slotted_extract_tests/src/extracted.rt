@@ -1,4 +1,4 @@
-//! What is asked of an extractor by words, and the walk over the rows of a table, each of which is `ASK: TERM => ANSWER`.
+//! Questions to an extractor by words, and the walk over the rows of a table. Each row is `ASK: TERM => ANSWER`.
 use slotted_costs::CostFunction;
 use slotted_explain::EGraph;
 use slotted_extract::{Extractor, ast_size_extract, extract};
@@ -10,7 +10,7 @@ use slotted_terms::expr::printing::Printable;
 use std::alloc::Global;
 use std::process::Abort;
 
-// Unites two ids, if they can be asked.
+// Unites two ids, if they are valid.
 fn unite<L: Language>(graph: &mut EGraph<L>, l: &AppliedId, r: &AppliedId) -> Result<bool, Error> {
     if graph.is_valid(l) && graph.is_valid(r) {
         graph.union(l, r)
@@ -19,7 +19,7 @@ fn unite<L: Language>(graph: &mut EGraph<L>, l: &AppliedId, r: &AppliedId) -> Re
     }
 }
 
-// Puts both terms of each line, and unites them. The term of a line that has one is put alone.
+// Adds both terms of each line, and unites them. The term of a line that has one is added alone.
 fn unite_lines<L: Language>(graph: &mut EGraph<L>, lines: &str) -> Result<(), Error> {
     for line in lines.lines() {
         let (left, right) = line.split_once(" == ").unwrap_or((line, line));
@@ -30,7 +30,7 @@ fn unite_lines<L: Language>(graph: &mut EGraph<L>, lines: &str) -> Result<(), Er
     Ok(())
 }
 
-// What an id finds, if it can be asked.
+// Returns what `find` maps an id to, if the id is valid.
 fn found<L: Language>(graph: &EGraph<L>, id: &AppliedId) -> Result<AppliedId, Error> {
     if graph.is_valid(id) {
         graph.find_applied_id(id)
@@ -39,7 +39,7 @@ fn found<L: Language>(graph: &EGraph<L>, id: &AppliedId) -> Result<AppliedId, Er
     }
 }
 
-// The term that is given out for an id by a word, if the id can be asked.
+// Returns the term that is extracted for an id by a word, if the id is valid.
 fn given<L: Language, F: CostFunction<L> + Default>(
     alloc: Global,
     graph: &mut EGraph<L>,
@@ -57,7 +57,7 @@ fn given<L: Language, F: CostFunction<L> + Default>(
     }
 }
 
-// The text with `$fk` for the fresh slot that stands first.
+// Returns the text with `$fk` for the fresh slot that stands first.
 fn with_fresh(alloc: Global, text: &str) -> Result<String, Error> {
     let (_, behind) = parted(text, "$f");
     let (name, _) = parted(behind, ")");
@@ -66,7 +66,7 @@ fn with_fresh(alloc: Global, text: &str) -> Result<String, Error> {
     Ok(text.replace(alloc, slot.as_str(), "$fk")?)
 }
 
-// The term that is given out, as it prints, with `$fk` for its first fresh slot.
+// Returns the text of the extracted term, with `$fk` for its first fresh slot.
 fn given_text<L: Printable, F: CostFunction<L> + Default>(
     alloc: Global,
     graph: &mut EGraph<L>,
@@ -79,7 +79,7 @@ fn given_text<L: Printable, F: CostFunction<L> + Default>(
     with_fresh(alloc, text.as_str())
 }
 
-// What a term costs, if it is one.
+// Returns the cost of a term, if the term is valid.
 fn term_cost<L: Language, F: CostFunction<L>>(
     alloc: Global,
     graph: &EGraph<L>,
@@ -93,7 +93,7 @@ fn term_cost<L: Language, F: CostFunction<L>>(
     }
 }
 
-// What the term costs that is given out.
+// Returns the cost of the extracted term.
 fn given_cost<L: Language, F: CostFunction<L> + Default>(
     alloc: Global,
     graph: &mut EGraph<L>,
@@ -104,7 +104,7 @@ fn given_cost<L: Language, F: CostFunction<L> + Default>(
     term_cost(alloc, graph, &extractor.costs, &term)
 }
 
-// What the term costs that a text writes.
+// Returns the cost of the term of a text.
 fn written_cost<L: Language, F: CostFunction<L>>(
     alloc: Global,
     graph: &mut EGraph<L>,
@@ -115,7 +115,7 @@ fn written_cost<L: Language, F: CostFunction<L>>(
     term_cost(alloc, graph, costs, &term)
 }
 
-// The cost that is asked of a text's term by a word.
+// Returns the cost that is asked of a text's term by a word.
 fn cost<L: Language, F: CostFunction<L> + Default>(
     alloc: Global,
     graph: &mut EGraph<L>,
@@ -132,7 +132,7 @@ fn cost<L: Language, F: CostFunction<L> + Default>(
     }
 }
 
-// A cost in digits.
+// Returns a cost in digits.
 fn cost_text<L: Language, F: CostFunction<L, Cost = u64> + Default>(
     alloc: Global,
     graph: &mut EGraph<L>,
@@ -144,7 +144,7 @@ fn cost_text<L: Language, F: CostFunction<L, Cost = u64> + Default>(
     Ok(format!(in alloc; "{cost}")?)
 }
 
-// The term of a text as it is given out.
+// Returns the text of the term that is extracted for the term of a text.
 fn term_text<L: Printable, F: CostFunction<L> + Default>(
     alloc: Global,
     graph: &mut EGraph<L>,
@@ -156,7 +156,7 @@ fn term_text<L: Printable, F: CostFunction<L> + Default>(
     given_text(alloc, graph, extractor, word, &id)
 }
 
-// What is answered, or the number of the refusal behind a sign.
+// Returns the answer, or the number of the error behind a sign.
 fn answer<L: Printable, F: CostFunction<L, Cost = u64> + Default>(
     alloc: Global,
     graph: &mut EGraph<L>,
@@ -195,7 +195,7 @@ fn check_rows<L: Printable, F: CostFunction<L, Cost = u64> + Default>(
     Ok(())
 }
 
-// Asks them after unions. The extractor is made before the terms of the rows are put.
+// Asks the rows after unions. The extractor is made before the terms of the rows are added.
 fn check_in<L: Printable, F: CostFunction<L, Cost = u64> + Default>(
     rt: &impl Abort,
     alloc: Global,
@@ -208,7 +208,7 @@ fn check_in<L: Printable, F: CostFunction<L, Cost = u64> + Default>(
     check_rows(rt, alloc, graph, &extractor, rows)
 }
 
-/// Each row is answered in a new graph after the unions.
+/// Asserts that each row has its answer, in a new graph after the unions.
 pub fn check<L: Printable, F: CostFunction<L, Cost = u64> + Default>(
     rt: &impl Abort,
     alloc: Global,

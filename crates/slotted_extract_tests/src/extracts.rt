@@ -1,4 +1,4 @@
-//! Tables of what is given out after unions, and of what it costs.
+//! Tables of extracted terms after unions, and of their costs.
 use crate::dear_products::DearProducts;
 use crate::extracted::check;
 use crate::light_lambdas::LightLambdas;
@@ -19,7 +19,7 @@ fn dear_products_are_avoided(rt: HostRuntime) -> Result<(), Error> {
     check::<Small, DearProducts>(&rt, rt.alloc(), "(mul x 2) == (add x x)", DOUBLED)
 }
 
-// The id of `b` is live, and that of `c` has come since the extractor was made.
+// The id of `b` is live, and that of `c` was made after the extractor.
 const OWN: &str = "own cost: a => refused 10
 own cost: b => 1
 found cost: a => 1
@@ -33,12 +33,12 @@ fn costs_are_of_live_classes(rt: HostRuntime) -> Result<(), Error> {
     check::<Small, AstSize>(&rt, rt.alloc(), "a == b", OWN)
 }
 
-// A fresh slot stands for each name that the union dropped.
+// A fresh slot stands for each redundant slot.
 const DROPPED: &str = "least: (var $x) => (var $fk)
 given cost: (var $x) => 1
 written cost: (lam $x (var $x)) => 2";
 
-// One stands at both places that had one name.
+// One fresh slot stands at both places that had one name.
 const TWICE: &str = "least: (app a b) => (f $fk $fk)
 given cost: (app a b) => 1";
 
@@ -71,7 +71,7 @@ fn of_terms_that_cost_the_same_the_first_is_given(rt: HostRuntime) -> Result<(),
     check::<Small, AstSize>(&rt, rt.alloc(), "(add x x) == (mul x 2)", SUM)
 }
 
-// A lambda comes before a word, but its body costs as much as it does.
+// A lambda comes before a word, but its body costs as much as the lambda does.
 const WORD: &str = "least: (lam $x a) => c
 by default: (lam $x a) => c
 given cost: (lam $x a) => 1

@@ -1,5 +1,6 @@
-//! Tests of extraction, as tables of text, and with cost functions that are not the size. They stand in a crate of their own, which is
-//! checked beside the other tests of the graph.
+//! Tests of extraction, as tables of text, and with cost functions that are not the size.
+//!
+//! They stand in a crate of their own, which is checked beside the other tests of the graph.
 #![tactic(auto)]
 
 #[cfg(test)]

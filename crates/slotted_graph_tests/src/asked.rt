@@ -1,4 +1,4 @@
-//! What is asked by the rows of tables here: what other tests of the graph ask, and printed proofs.
+//! Answers to the rows of tables: those of the questions that other tests of the graph ask too, and printed proofs.
 use crate::proofs::{printed, told};
 use slotted_explain::EGraph;
 use slotted_proofs::ProvenEq;
@@ -8,7 +8,7 @@ use slotted_slots::Error;
 use slotted_terms::expr::printing::Printable;
 use std::alloc::Global;
 
-// What is answered to a question.
+// Returns the answer to a question.
 fn asked<L: Printable>(
     alloc: Global,
     graph: &mut EGraph<L>,
@@ -23,7 +23,7 @@ fn asked<L: Printable>(
     }
 }
 
-// Whether an answer is the wanted one. None where it is a refusal with the number of what ended.
+// Returns whether an answer is the wanted one, or `None` if it is the error with the number of what ended.
 fn is_wanted(answer: &Result<String, Error>, wanted: &str, ended: u8) -> Option<bool> {
     match answer {
         Ok(text) => Some(text.as_str() == wanted),
@@ -37,7 +37,8 @@ fn is_wanted(answer: &Result<String, Error>, wanted: &str, ended: u8) -> Option<
     }
 }
 
-// Whether a row's question has the answer behind its arrow. None where it is refused by the number of what ended.
+// Returns whether a row's question has the answer behind its arrow, or `None` if the answer is the error with the
+// number of what ended.
 pub fn is_answered<L: Printable>(
     alloc: Global,
     graph: &mut EGraph<L>,

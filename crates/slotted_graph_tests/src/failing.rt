@@ -1,4 +1,4 @@
-//! What a failed graph refuses: each call that answers a `Result`.
+//! Calls that a failed graph refuses: each that answers a `Result`.
 use slotted_explain::{Check, EGraph, Explanation};
 use slotted_languages::Language;
 use slotted_proofs::{
@@ -10,7 +10,7 @@ use slotted_terms::expr::printing::Printable;
 use std::alloc::Global;
 use std::process::Abort;
 
-// The number of the refusal, or 0.
+// Returns the number of the error, or 0.
 fn refusal<T: Drop>(outcome: Result<T, Error>) -> u8 {
     match outcome {
         Ok(_) => 0,
@@ -18,7 +18,7 @@ fn refusal<T: Drop>(outcome: Result<T, Error>) -> u8 {
     }
 }
 
-// A failed graph finds nothing, and nothing is valid in it.
+// Asserts that a failed graph finds nothing, and that nothing is valid in it.
 fn assert_finds_nothing<L: Language>(
     rt: &impl Abort,
     graph: &EGraph<L>,
@@ -34,7 +34,7 @@ fn assert_finds_nothing<L: Language>(
     assert!(rt; !graph.is_valid_expr(term));
 }
 
-// It tells nothing of its classes.
+// Asserts that a failed graph tells nothing of its classes.
 fn assert_tells_nothing<L: Language>(rt: &impl Abort, graph: &EGraph<L>, id: &AppliedId) {
     assert!(rt; graph.is_failed());
     assert!(rt; refusal(graph.ids()) == 3);
@@ -46,7 +46,7 @@ fn assert_tells_nothing<L: Language>(rt: &impl Abort, graph: &EGraph<L>, id: &Ap
     assert!(rt; !graph.is_alive(id.id));
 }
 
-// It makes no slot.
+// Asserts that a failed graph makes no slot.
 fn assert_makes_no_slot<L: Language>(rt: &impl Abort, graph: &mut EGraph<L>) {
     assert!(rt; graph.is_failed());
     assert!(rt; refusal(graph.fresh_slot()) == 3);
@@ -54,7 +54,7 @@ fn assert_makes_no_slot<L: Language>(rt: &impl Abort, graph: &mut EGraph<L>) {
     assert!(rt; graph.is_failed());
 }
 
-// It takes nothing in.
+// Asserts that a failed graph adds no term.
 fn assert_takes_nothing<L: Language>(rt: &impl Abort, graph: &mut EGraph<L>, term: &RecExpr<L>) {
     assert!(rt; graph.is_failed());
     assert!(rt; refusal(graph.parse_expr("a")) == 3);
@@ -64,21 +64,21 @@ fn assert_takes_nothing<L: Language>(rt: &impl Abort, graph: &mut EGraph<L>, ter
     assert!(rt; graph.is_failed());
 }
 
-// No node is added.
+// Asserts that a failed graph adds no e-node.
 fn assert_takes_no_node<L: Language>(rt: &impl Abort, graph: &mut EGraph<L>, node: L) {
     assert!(rt; graph.is_failed());
     assert!(rt; refusal(graph.add(node)) == 3);
     assert!(rt; graph.is_failed());
 }
 
-// Nor is one by its own class.
+// Asserts that a failed graph adds no syntactic e-node.
 fn assert_takes_no_syn_node<L: Language>(rt: &impl Abort, graph: &mut EGraph<L>, node: L) {
     assert!(rt; graph.is_failed());
     assert!(rt; refusal(graph.add_syn(node)) == 3);
     assert!(rt; graph.is_failed());
 }
 
-// It gives nothing out.
+// Asserts that a failed graph returns no syntactic e-node and no term of an id.
 fn assert_gives_nothing<L: Language>(rt: &impl Abort, graph: &mut EGraph<L>, id: &AppliedId) {
     assert!(rt; graph.is_failed());
     assert!(rt; refusal(graph.get_syn_node(id)) == 3);
@@ -86,7 +86,7 @@ fn assert_gives_nothing<L: Language>(rt: &impl Abort, graph: &mut EGraph<L>, id:
     assert!(rt; graph.is_failed());
 }
 
-// It gives out none of its nodes.
+// Asserts that a failed graph returns none of its e-nodes.
 fn assert_gives_no_nodes<L: Language>(
     rt: &impl Abort,
     alloc: Global,
@@ -102,7 +102,7 @@ fn assert_gives_no_nodes<L: Language>(
     assert!(rt; graph.is_failed());
 }
 
-// It proves nothing.
+// Asserts that a failed graph proves nothing.
 fn assert_proves_nothing<L: Language>(rt: &impl Abort, graph: &mut EGraph<L>, sides: &Equation) {
     assert!(rt; graph.is_failed());
     assert!(rt; refusal(graph.union(&sides.l, &sides.r)) == 3);
@@ -110,7 +110,7 @@ fn assert_proves_nothing<L: Language>(rt: &impl Abort, graph: &mut EGraph<L>, si
     assert!(rt; graph.is_failed());
 }
 
-// It explains nothing.
+// Asserts that a failed graph explains nothing.
 fn assert_explains_nothing<L: Language>(
     rt: &impl Abort,
     graph: &mut EGraph<L>,
@@ -123,7 +123,7 @@ fn assert_explains_nothing<L: Language>(
     assert!(rt; graph.is_failed());
 }
 
-// It refuses all of that.
+// Asserts that a failed graph refuses all of these calls.
 fn assert_refuses<L: Language>(
     rt: &impl Abort,
     graph: &mut EGraph<L>,
@@ -139,7 +139,7 @@ fn assert_refuses<L: Language>(
     assert_explains_nothing(rt, graph, term, sides);
 }
 
-// Equal null ids.
+// Returns an equation of null ids.
 fn null_sides(alloc: Global) -> Equation {
     Equation {
         l: AppliedId::null(alloc),
@@ -147,7 +147,7 @@ fn null_sides(alloc: Global) -> Equation {
     }
 }
 
-// A failed graph refuses each call that is handed terms, nodes or ids.
+// Asserts that a failed graph refuses each call over terms, e-nodes or ids.
 pub fn assert_failed<L: Language>(
     rt: &impl Abort,
     alloc: Global,
@@ -165,7 +165,7 @@ pub fn assert_failed<L: Language>(
     }
 }
 
-// It takes no step over an entry.
+// Asserts that a failed graph takes no step over an entry.
 fn assert_takes_no_step<L: Language>(
     rt: &impl Abort,
     alloc: Global,
@@ -180,7 +180,7 @@ fn assert_takes_no_step<L: Language>(
     assert!(rt; graph.is_failed());
 }
 
-// It prints no entry.
+// Asserts that a failed graph prints no entry.
 fn assert_prints_nothing<L: Printable>(
     rt: &impl Abort,
     alloc: Global,
@@ -195,7 +195,8 @@ fn assert_prints_nothing<L: Printable>(
     assert!(rt; graph.is_failed());
 }
 
-// A failed graph refuses each call that is handed the number of an entry. What it asserted first is one, if there is any.
+// Asserts that a failed graph refuses each call over the number of an entry. The entry is the first asserted one, if
+// there is any.
 pub fn assert_entries_refused<L: Printable>(rt: &impl Abort, alloc: Global, graph: &mut EGraph<L>) {
     let first = graph.asserted().first().copied();
     if let Some(p) = first {

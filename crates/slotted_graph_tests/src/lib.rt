@@ -1,5 +1,7 @@
-//! Tests of the graph where memory or slots end, of failed graphs, of printed proofs, and of the table that a graph gives back. They stand in a
-//! crate of their own, since a crate with tests is proved twice.
+//! Tests of graphs whose memory or slots end, of failed graphs, of printed proofs, and of the table that a graph gives
+//! back.
+//!
+//! They stand in a crate of their own, since a crate with tests is proved twice.
 #![tactic(auto)]
 
 #[cfg(test)]

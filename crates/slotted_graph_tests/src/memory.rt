@@ -1,16 +1,16 @@
-//! A short script in which memory or slots end. `rt try --test --fail-alloc N` has the Nth growth refused.
+//! A short script in which memory or slots end. `rt try --test --fail-alloc N` refuses the Nth growth.
 use crate::refused::check_rows;
 use slotted_small::Small;
 use slotted_terms::expr::printing::Printable;
 use std::alloc::Global;
 use std::process::Abort;
 
-// Two alpha-equal terms are added and compared, and a node of them is looked up.
+// Two alpha-equal terms are added and compared, and an e-node of them is looked up.
 const SCRIPT: &str =
     "ids: (lam $0 (app (f $0 $y) (g $0))) == (lam $1 (app (f $1 $y) (g $1))) => equal
 node found: (g $0) == (g $0) => equal";
 
-// One growth at most is refused: where the script meets it, it ends well when it is run once more.
+// One growth at most is refused. If the script meets the refusal, it ends well when it is run once more.
 #[test]
 fn refused_memory_is_answered(rt: HostRuntime) {
     if !check_rows::<Small>(&rt, rt.alloc(), "0", "y", SCRIPT, 1) {

@@ -7,7 +7,7 @@ use slotted_terms::expr::printing::Printable;
 use std::alloc::Global;
 use std::process::Abort;
 
-// Each question has the answer that stands behind its arrow. A row that begins with `# ` is a remark.
+// Asserts that each question has the answer behind its arrow. A row that begins with `# ` is a remark.
 fn check_over<L: Printable>(
     rt: &impl Abort,
     alloc: Global,
@@ -24,13 +24,13 @@ fn check_over<L: Printable>(
     }
 }
 
-// The same of a graph beside a new one.
+// Asserts that the questions of a graph beside a new one have their answers.
 pub fn check_in<L: Printable>(rt: &impl Abort, alloc: Global, graph: &mut EGraph<L>, rows: &str) {
     let mut other: EGraph<L> = empty(alloc, "0").expect(rt, "no memory is taken");
     check_over(rt, alloc, graph, &mut other, rows);
 }
 
-// The same of tables between lines `---`, each in a new graph over a table that has read a name.
+// Asserts that tables between lines `---` have their answers, each in a new graph over a table that has read a name.
 fn check<L: Printable>(rt: &impl Abort, alloc: Global, name: &str, tables: &str) {
     for rows in tables.split("---\n") {
         let mut graph: EGraph<L> = empty(alloc, name).expect(rt, "no memory is taken");
@@ -103,7 +103,7 @@ fn proofs_print(rt: HostRuntime) {
     check::<Small>(&rt, rt.alloc(), "0", PRINTED);
 }
 
-// A node whose class needs no slot is added where none is left. One whose class needs one fails the graph.
+// If no slot is left, an e-node whose class needs none is added. One whose class needs a slot fails the graph.
 const WITHOUT_SLOTS: &str = "node added: 7 => yes
 graph failed => no
 assert: a == b => accepted

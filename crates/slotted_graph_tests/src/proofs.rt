@@ -1,4 +1,4 @@
-//! What is printed of the proofs of a graph.
+//! Printing of the proofs of a graph.
 use slotted_explain::{EGraph, Explanation};
 use slotted_languages::Language;
 use slotted_proofs::{Proof, ProvenEq};
@@ -8,7 +8,7 @@ use slotted_slots::Error;
 use slotted_terms::expr::printing::Printable;
 use std::alloc::Global;
 
-// The proof by lines, if there is one of this number.
+// Returns the proof by lines, if there is one of this number.
 fn lines<L: Printable>(alloc: Global, graph: &mut EGraph<L>, p: ProvenEq) -> Result<String, Error> {
     if graph.is_valid_proof(p) {
         p.to_string(alloc, graph)
@@ -17,7 +17,7 @@ fn lines<L: Printable>(alloc: Global, graph: &mut EGraph<L>, p: ProvenEq) -> Res
     }
 }
 
-// The proof as a chain of terms.
+// Returns the proof as a chain of terms.
 fn chain<L: Printable>(alloc: Global, graph: &mut EGraph<L>, p: ProvenEq) -> Result<String, Error> {
     if graph.is_valid_proof(p) {
         p.to_flat_string(alloc, graph)
@@ -26,7 +26,7 @@ fn chain<L: Printable>(alloc: Global, graph: &mut EGraph<L>, p: ProvenEq) -> Res
     }
 }
 
-// The equation of the last line.
+// Returns the equation of the last line.
 fn last_equation(alloc: Global, lines: &str) -> Result<String, Error> {
     let (_, line) = lines.trim_end().rsplit_once("\n").unwrap_or(("", lines));
     let (_, line) = parted(line, ": ");
@@ -34,13 +34,13 @@ fn last_equation(alloc: Global, lines: &str) -> Result<String, Error> {
     Ok(String::from_str(alloc, equation)?)
 }
 
-// What the last line of a proof says.
+// Returns the equation that the last line of a proof says.
 fn said<L: Printable>(alloc: Global, graph: &mut EGraph<L>, p: ProvenEq) -> Result<String, Error> {
     let text = lines(alloc, graph, p)?;
     last_equation(alloc, text.as_str())
 }
 
-// What is printed by a word.
+// Returns what is printed by a word.
 fn text<L: Printable>(
     alloc: Global,
     graph: &mut EGraph<L>,
@@ -54,7 +54,7 @@ fn text<L: Printable>(
     }
 }
 
-// The text with a sign for each line feed.
+// Returns the text with a sign for each line feed.
 fn in_one_line(alloc: Global, text: &str) -> Result<String, Error> {
     Ok(text.replace(alloc, "\n", "¶")?)
 }
@@ -69,7 +69,7 @@ fn printed_in_one_line<L: Printable>(
     in_one_line(alloc, text.as_str())
 }
 
-// What is printed of the proof that a digit names.
+// Returns what is printed of the proof that a digit names.
 pub fn printed<L: Printable>(
     alloc: Global,
     graph: &mut EGraph<L>,
@@ -81,7 +81,7 @@ pub fn printed<L: Printable>(
     printed_in_one_line(alloc, graph, p, word)
 }
 
-// Whether an entry is asserted for this reason.
+// Returns whether an entry is asserted for this reason.
 fn has_text<L: Language>(graph: &EGraph<L>, p: ProvenEq, text: &str) -> bool {
     if !graph.is_valid_proof(p) {
         return false;
@@ -92,7 +92,7 @@ fn has_text<L: Language>(graph: &EGraph<L>, p: ProvenEq, text: &str) -> bool {
     }
 }
 
-// Whether the copy of an entry has the same equation.
+// Returns whether the copy of an entry has the same equation.
 fn is_copied<L: Language>(alloc: Global, graph: &EGraph<L>, p: ProvenEq) -> Result<bool, Error> {
     if !graph.is_valid_proof(p) {
         return Err(Error::BadStep);
@@ -101,7 +101,7 @@ fn is_copied<L: Language>(alloc: Global, graph: &EGraph<L>, p: ProvenEq) -> Resu
     Ok(entry.equ == *p.equ(graph))
 }
 
-// Whether an entry is asserted for this reason, and its copy has the same equation.
+// Returns whether an entry is asserted for this reason, and its copy has the same equation.
 fn is_told<L: Language>(
     alloc: Global,
     graph: &EGraph<L>,
@@ -111,7 +111,7 @@ fn is_told<L: Language>(
     Ok(is_copied(alloc, graph, p)? && has_text(graph, p, text))
 }
 
-// The same of the entry that a digit names.
+// Returns whether the entry that a digit names is asserted for this reason, and its copy has the same equation.
 pub fn told<L: Language>(
     alloc: Global,
     graph: &EGraph<L>,

@@ -1,4 +1,5 @@
-//! A script over most calls of a graph, in which memory or slots end. `rt try --test --fail-alloc N` has the Nth growth refused.
+//! A script over most calls of a graph, in which memory or slots end. `rt try --test --fail-alloc N` refuses the Nth
+//! growth.
 use crate::asked::is_answered;
 use crate::failing::{assert_entries_refused, assert_failed};
 use slotted_explain::EGraph;
@@ -10,8 +11,10 @@ use slotted_terms::expr::printing::Printable;
 use std::alloc::Global;
 use std::process::Abort;
 
-// Each question with its answer where memory is ample: a union that drops a slot, one that meets a symmetry and one that closes it, two
-// layers of nodes that follow from a union of words, and what is asked of all that.
+// Each question with its answer if memory is ample.
+//
+// The unions make a slot redundant, meet a symmetry, and close it. A union of words makes two layers of e-nodes equal.
+// The other questions ask for all of that.
 const SCRIPT: &str = r#"union: (f $x $y) == (g $x) => yes
 count live => 1
 count slots: (f $x $y) => 1
@@ -57,13 +60,14 @@ report found set: (f $x $y) => 2
 report check => yes
 count asserted => 4"#;
 
-// What is answered to a question that was refused, and is asked again: one growth at most is refused, but no slot comes back.
+// Returns the answer to a question that was refused, and is asked again. One growth at most is refused, but no slot
+// comes back.
 fn again(ended: u8) -> Option<bool> {
     if ended == 1 { Some(true) } else { None }
 }
 
-// Asks a question, and once more where something ended and the graph has not failed: nothing was asserted then. Says whether the graph
-// has not failed.
+// Asks a question, and once more if something ended and the graph has not failed, since nothing was asserted then.
+// Returns whether the graph has not failed.
 fn goes_on<L: Printable>(
     rt: &impl Abort,
     alloc: Global,
@@ -89,7 +93,7 @@ fn goes_on<L: Printable>(
     true
 }
 
-// Walks through the rows up to the end, or to the first write that is refused. Says whether it came to the end.
+// Asks the rows up to the end, or to the first write that is refused. Returns whether the end was reached.
 fn walk<L: Printable>(
     rt: &impl Abort,
     alloc: Global,
@@ -107,7 +111,7 @@ fn walk<L: Printable>(
     true
 }
 
-// A failed graph refuses each call, here with what another graph reads.
+// Asserts that a failed graph refuses each call, here over what another graph reads.
 fn assert_all_refused<L: Printable>(
     rt: &impl Abort,
     alloc: Global,
@@ -119,7 +123,7 @@ fn assert_all_refused<L: Printable>(
     assert_entries_refused(rt, alloc, graph);
 }
 
-// Walks through the rows beside another graph, and over the graph that has failed. Says whether it came to the end.
+// Asks the rows beside another graph, and then over the graph that has failed. Returns whether the end was reached.
 fn walk_beside<L: Printable>(
     rt: &impl Abort,
     alloc: Global,
@@ -136,7 +140,7 @@ fn walk_beside<L: Printable>(
     ends
 }
 
-// The same beside a new graph.
+// Asks the rows beside a new graph. Returns whether the end was reached.
 fn walk_beside_new<L: Printable>(
     rt: &impl Abort,
     alloc: Global,
@@ -148,13 +152,15 @@ fn walk_beside_new<L: Printable>(
     walk_beside(rt, alloc, graph, &mut other, rows, ended)
 }
 
-// The table comes out in the end, also that of a failed graph: its first name is the one that was read first.
+// Asserts that the table comes out in the end, also that of a failed graph. Its first name is the one that was read
+// first.
 fn assert_first(rt: &impl Abort, table: &mut SlotTable, first: &str) {
     let slot = table.named(first).expect(rt, "the name was read");
     assert!(rt; slot.raw() == 2);
 }
 
-// Walks through the rows, which name this slot first, in a new graph over a table that has read a name. Says whether it came to the end.
+// Asks the rows, which name this slot first, in a new graph over a table that has read a name. Returns whether the end
+// was reached.
 pub fn check_rows<L: Printable>(
     rt: &impl Abort,
     alloc: Global,
@@ -176,7 +182,7 @@ fn one_refused_growth_is_answered(rt: HostRuntime) {
     check_rows::<Small>(&rt, rt.alloc(), "0", "x", SCRIPT, 1);
 }
 
-// With so many fresh slots left.
+// The script is run with so many fresh slots left.
 #[test]
 fn slots_that_ended_are_answered(rt: HostRuntime) -> Result<(), Error> {
     let alloc = rt.alloc();

@@ -8,14 +8,14 @@ use slotted_terms::expr::printing::Printable;
 use std::alloc::Global;
 use std::process::Abort;
 
-// The table of a graph over a table that has read a name, after these rows.
+// Returns the table of a graph over a table that has read a name, after these rows.
 fn table_after<L: Printable>(rt: &impl Abort, alloc: Global, name: &str, rows: &str) -> SlotTable {
     let mut graph: EGraph<L> = empty(alloc, name).expect(rt, "no memory is taken");
     check_in(rt, alloc, &mut graph, rows);
     graph.into_table()
 }
 
-// The names of a text stand in the table in their order, each once, after the one that it was given with.
+// The names of a text stand in the table in their order, each once, after the one that the table had.
 #[test]
 fn the_table_keeps_the_names(rt: HostRuntime) -> Result<(), Error> {
     let rows = "graph knows x => yes\nids: (app (f $x $x) (g $y)) => equal";

@@ -1,4 +1,4 @@
-//! How the script ends where memory or slots end. `rt try --test --fail-alloc N` has the Nth growth refused.
+//! Endings of the script if memory or slots end. `rt try --test --fail-alloc N` refuses the Nth growth.
 use crate::script::{Ending, STEPS, walk_over};
 use slotted_graph::EGraph;
 use slotted_languages::Language;
@@ -9,7 +9,7 @@ use std::alloc::Global;
 use std::io;
 use std::process::Abort;
 
-// How the script ends over a new table.
+// Returns how the script ends over a new table.
 fn ending_over_new(rt: &impl Abort, alloc: Global, last: &str, ended: u8) -> Ending {
     walk_over::<Small>(rt, alloc, SlotTable::new(alloc), last, ended)
 }
@@ -20,12 +20,12 @@ fn the_script_is_answered(rt: HostRuntime) {
     assert!(rt; ending.refusals == 0);
 }
 
-// Which step was refused first.
+// Returns which step was refused first.
 fn first_refused(ending: &Ending) -> &'static str {
     ending.refused.unwrap_or("none")
 }
 
-// One growth at most is refused. The step that met it is printed, so that `bench/refuse` can count.
+// One growth at most is refused. The step that met the refusal is printed, so that `bench/refuse` can count.
 #[test]
 fn one_refused_growth_is_answered(rt: HostRuntime) -> io::Result<()> {
     let ending = ending_over_new(&rt, rt.alloc(), "0", 1);
@@ -34,7 +34,7 @@ fn one_refused_growth_is_answered(rt: HostRuntime) -> io::Result<()> {
     println!(rt; "refused: {step}")
 }
 
-// The place of the first step that was refused, or the number of steps.
+// Returns the place of the first step that was refused, or the number of steps.
 fn place(ending: &Ending) -> usize {
     match ending.refused {
         Some(refused) => STEPS.iter().position(|step| *step == refused).unwrap_or(0),
@@ -42,7 +42,10 @@ fn place(ending: &Ending) -> usize {
     }
 }
 
-// Six slots are needed for the classes of the term: two, one, two and one. With one more the script comes as far at least.
+// Returns whether the script ends well with some number of fresh slots.
+//
+// Six slots are needed for the classes of the term: two, one, two and one. With one slot more, the script goes on at
+// least as far.
 fn check_endings(rt: &impl Abort, alloc: Global) -> Result<bool, Error> {
     let mut before = 0usize;
     for left in 0..64u32 {
@@ -59,7 +62,8 @@ fn check_endings(rt: &impl Abort, alloc: Global) -> Result<bool, Error> {
     Ok(false)
 }
 
-// The id of a lambda is refused its nodes where no slot is left for what it binds, and is equal to itself.
+// Asserts that the id of a lambda is refused its e-nodes if no slot is left for its binder, and that the id is equal to
+// itself.
 fn check_lambda<L: Language>(
     rt: &impl Abort,
     graph: &mut EGraph<L>,

@@ -24,12 +24,12 @@ pub const STEPS: [&str; 9] = [
     "name", "add", "unite", "explain", "nodes", "term", "costs", "apply", "run",
 ];
 
-// Whether a step writes: if it is refused, the graph has failed.
+// Returns whether a step writes. If a write is refused, the graph has failed.
 fn is_write(step: &str) -> bool {
     matches!(step, "add" | "unite" | "explain" | "apply" | "run")
 }
 
-/// What the steps ask of.
+/// The terms and rules that the steps are about.
 #[derive(Drop)]
 pub struct Asked<L: Language> {
     terms: Vec<RecExpr<L>>,
@@ -44,7 +44,7 @@ fn read_terms<L: Language>(alloc: Global, table: &mut SlotTable) -> Result<Vec<R
     Ok(terms)
 }
 
-// The rule that takes the lambda from a function.
+// Returns the rule that takes the lambda from a function.
 fn read_rules<L: Language>(
     alloc: Global,
     table: &mut SlotTable,
@@ -64,14 +64,14 @@ fn read_rules<L: Language>(
     Ok(rules)
 }
 
-/// Reads what the steps ask of. The first name that is read is `x`.
+/// Returns the terms and rules of the steps. The first name that is read is `x`.
 pub fn read<L: Language>(alloc: Global, table: &mut SlotTable) -> Result<Asked<L>, Error> {
     let terms = read_terms(alloc, table)?;
     let rules = read_rules(alloc, table)?;
     Ok(Asked { terms, rules })
 }
 
-// What a step over two terms answers.
+// Returns the answer of a step over two terms.
 fn ask_of_terms<L: Language>(
     alloc: Global,
     graph: &mut EGraph<L>,
@@ -92,7 +92,7 @@ fn ask_of_terms<L: Language>(
     }
 }
 
-// Takes a step. Says whether it was answered as where memory and slots are ample.
+// Takes a step. Returns whether the answer is the one for ample memory and slots.
 fn take<L: Language>(
     alloc: Global,
     graph: &mut EGraph<L>,
@@ -109,7 +109,7 @@ fn take<L: Language>(
     }
 }
 
-/// How the script ended.
+/// The ending of the script.
 #[derive(Drop)]
 pub struct Ending {
     /// The first step that was refused, if any was.
@@ -120,7 +120,8 @@ pub struct Ending {
     pub failed: bool,
 }
 
-// The number of the refusal, or 0. A step that is answered is answered as where memory and slots are ample.
+// Returns the number of the error, or 0. Asserts that a step without an error has the answer for ample memory and
+// slots.
 fn refusal(rt: &impl Abort, outcome: Result<bool, Error>, step: &str) -> u8 {
     match outcome {
         Ok(holds) => {
@@ -131,7 +132,8 @@ fn refusal(rt: &impl Abort, outcome: Result<bool, Error>, step: &str) -> u8 {
     }
 }
 
-// A step that was refused and left the graph as it was is asked again. One growth at most is refused, but no slot comes back.
+// Asks a step again that was refused and left the graph as it was. One growth at most is refused, but no slot comes
+// back.
 fn ask_again<L: Language>(
     rt: &impl Abort,
     alloc: Global,
@@ -146,7 +148,7 @@ fn ask_again<L: Language>(
     assert!(rt; !graph.is_failed(), "{step}");
 }
 
-// Takes a step, and once more where it was refused and the graph has not failed: nothing was asserted then.
+// Takes a step, and once more if the step was refused and the graph has not failed, since nothing was asserted then.
 fn go_on<L: Language>(
     rt: &impl Abort,
     alloc: Global,
@@ -176,7 +178,7 @@ fn go_on<L: Language>(
     }
 }
 
-// A failed graph refuses each step.
+// Asserts that a failed graph refuses each step.
 fn assert_failed<L: Language>(
     rt: &impl Abort,
     alloc: Global,
@@ -235,7 +237,7 @@ fn walk_from_null<L: Language>(
 // The names that are read, in their order.
 const NAMES: [(&str, u32); 5] = [("x", 2), ("y", 6), ("a", 10), ("b", 14), ("c", 18)];
 
-// The table has the names that were read.
+// Asserts that the table has the names that were read.
 fn assert_named(rt: &impl Abort, table: &mut SlotTable) {
     for (name, raw) in NAMES {
         let slot = table.named(name).expect(rt, "the name was read");
@@ -259,7 +261,7 @@ fn walk_with<L: Language>(
     ending
 }
 
-// Reads what the steps ask of, once more if a growth is refused.
+// Reads the terms and rules of the steps, once more if a growth is refused.
 fn read_again<L: Language>(
     rt: &impl Abort,
     alloc: Global,
@@ -275,8 +277,8 @@ fn read_again<L: Language>(
     }
 }
 
-/// Takes the steps over a graph with this table, in which a slot is named first, and says how the script ended. `ended` is the number of the
-/// refusal that may come.
+/// Takes the steps over a graph with this table, in which a slot is named first. Returns how the script ended. `ended`
+/// is the number of the error that may come.
 pub fn walk_over<L: Language>(
     rt: &impl Abort,
     alloc: Global,

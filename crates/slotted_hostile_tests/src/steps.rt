@@ -1,4 +1,4 @@
-//! The steps of the script, each of which says whether it was answered as where memory and slots are ample.
+//! The steps of the script. Each returns whether its answer is the one for ample memory and slots.
 ghost use Rattle.std.specs.Prelude.{◌≡◌, ◌⊎◌, ⊤, IsTrue};
 ghost use Rattle.slotted_proofs.specs.Equations.{to_applied};
 ghost use Rattle.slotted_graph.specs.ValidIds.{IsValidId};
@@ -16,7 +16,7 @@ use slotted_slots::{AppliedId, Error, SlotMap};
 use slotted_terms::expr::RecExpr;
 use std::alloc::Global;
 
-/// The clock that stands still.
+/// A clock that stands still.
 #[derive(Drop)]
 struct Still;
 
@@ -28,14 +28,14 @@ impl Clock for Still {
     }
 }
 
-// Whether an id can be handed to calls on the graph: a failed one takes any.
+// Returns whether an id can be handed to calls on the graph. A failed graph takes any id.
 fn takes_id<L: Language>(graph: &EGraph<L>, id: &AppliedId) -> bool
     ensures { IsTrue result → IsTrue graph.now.failed ⊎ IsValidId graph.now (to_applied id.now) }
 {
     graph.is_failed() || graph.is_valid(id)
 }
 
-// The same of a term.
+// Returns whether a term can be handed to calls on the graph. A failed graph takes any term.
 fn takes_term<L: Language>(graph: &EGraph<L>, term: &RecExpr<L>) -> bool
     ensures { IsTrue result → IsTrue graph.now.failed ⊎ IsValidTerm graph.now.table term.now }
 {
@@ -48,7 +48,7 @@ pub fn name_last<L: Language>(graph: &mut EGraph<L>, name: &str) -> Result<bool,
     Ok(true)
 }
 
-/// Adds a term of four nodes, each of which gets a class.
+/// Adds a term of four e-nodes, each of which gets a class.
 pub fn add<L: Language>(
     graph: &mut EGraph<L>,
     term: &RecExpr<L>,
@@ -93,7 +93,7 @@ pub fn unite<L: Language>(
     Ok(united && graph.progress().number_of_live_classes == 3)
 }
 
-// How many names two maps have at the same places.
+// Returns how many names two maps have at the same places.
 fn common_names(left: &SlotMap, right: &SlotMap) -> usize {
     let mut count = 0usize;
     for i in 0..left.len() {
@@ -104,7 +104,7 @@ fn common_names(left: &SlotMap, right: &SlotMap) -> usize {
     count
 }
 
-// Whether an equation has one class on both sides, over two names each, of which one is the same.
+// Returns whether an equation has one class on both sides, over two names each, of which one is the same.
 fn changes_one_of_two_names(equation: &Equation) -> bool {
     let (left, right) = (&equation.l, &equation.r);
     left.id == right.id
@@ -130,7 +130,7 @@ pub fn explain<L: Language>(
     Ok(is_of_one_name(graph, p))
 }
 
-/// Lists the nodes of an id: one like that of the term that was added.
+/// Lists the e-nodes of an id: one like that of the term that was added.
 pub fn list_nodes<L: Language>(
     graph: &mut EGraph<L>,
     id: &AppliedId,
@@ -146,7 +146,7 @@ pub fn list_nodes<L: Language>(
     }
 }
 
-/// Gives out the canonical term of an id: the term that was added.
+/// Returns the canonical term of an id: the term that was added.
 pub fn give_term<L: Language>(
     alloc: Global,
     graph: &mut EGraph<L>,
@@ -160,7 +160,7 @@ pub fn give_term<L: Language>(
     given.alpha_eq(alloc, term)
 }
 
-/// Makes an extractor, by which the term costs as much as its nodes are many.
+/// Makes an extractor by which the cost of the term is the number of its e-nodes.
 pub fn count_costs<L: Language>(
     alloc: Global,
     graph: &mut EGraph<L>,
@@ -184,7 +184,7 @@ pub fn apply<L: Language, R: RewriteT<L, ()>>(
     Ok(!changed)
 }
 
-// Whether no turn was counted, and four nodes of three classes are there.
+// Returns whether no turn was counted, and the graph has four e-nodes in three classes.
 fn is_saturated_at_once(report: &Report) -> bool {
     matches!(report.stop_reason, StopReason::Saturated)
         && report.iterations == 0

@@ -1,4 +1,4 @@
-//! What is asked of a graph by words.
+//! Questions to a graph by words.
 use crate::graphs::{bare_sum, compare, put, term_text, unite};
 use crate::own_conditions::{FirstOnly, RefusesLater};
 use crate::own_methods::Asserting;
@@ -13,12 +13,12 @@ use slotted_small::Small;
 use slotted_terms::expr::RecExpr;
 use std::alloc::Global;
 
-/// What stands before a sign, and behind it.
+/// Returns the texts before and behind a sign.
 pub fn parted<'a>(text: &'a str, sign: &str) -> (&'a str, &'a str) {
     text.split_once(sign).unwrap_or((text, ""))
 }
 
-// Applies one rule, if it can be handed to the graph. Otherwise the graph has failed.
+// Applies one rule, if the rule can be handed to the graph. If it cannot, the graph has failed.
 fn apply_one<R: RewriteT<Small, ()>>(
     alloc: Global,
     graph: &mut EGraph<Small>,
@@ -33,7 +33,7 @@ fn apply_one<R: RewriteT<Small, ()>>(
     }
 }
 
-// The pattern that a text writes, or the one that no text writes.
+// Returns the pattern of a text, or the one that no text writes.
 fn pattern(alloc: Global, graph: &mut EGraph<Small>, text: &str) -> Result<Pattern<Small>, Error> {
     if text == "bare" {
         return Ok(bare_sum(alloc));
@@ -55,7 +55,7 @@ fn apply_under<C: Cond<Small, ()>>(
     apply_one(alloc, graph, rule)
 }
 
-// Applies the rule of a caller's own that unites two terms.
+// Applies a rule of a caller's own, which unites two terms.
 fn apply_own(alloc: Global, graph: &mut EGraph<Small>, texts: &str) -> Result<bool, Error> {
     let (left, right) = parted(texts, " ~> ");
     let left = put(graph, left)?;
@@ -63,7 +63,7 @@ fn apply_own(alloc: Global, graph: &mut EGraph<Small>, texts: &str) -> Result<bo
     apply_one(alloc, graph, Union { left, right })
 }
 
-// The instance of a pattern over the first answer of a search.
+// Returns the instance of a pattern over the first match of a search.
 fn instance_at(
     alloc: Global,
     graph: &mut EGraph<Small>,
@@ -81,7 +81,7 @@ fn instance_at(
     pattern_subst(alloc, graph, pattern, &subst)
 }
 
-// The instance of a pattern over no values.
+// Returns the instance of a pattern over no values.
 fn instance(
     alloc: Global,
     graph: &mut EGraph<Small>,
@@ -94,7 +94,7 @@ fn instance(
     pattern_subst(alloc, graph, pattern, &subst)
 }
 
-// The same by the method of a caller's own.
+// Returns the instance of a pattern over no values, by a method of a caller's own.
 fn own_instance(
     alloc: Global,
     graph: &mut EGraph<Small>,
@@ -107,7 +107,7 @@ fn own_instance(
     subst_with(alloc, graph, pattern, &subst, &mut Asserting)
 }
 
-// The canonical term of an instance of a text `P`, or of `P by Q`, over the first answer of a search for `Q`.
+// Returns the canonical term of an instance of a text `P`, or of `P by Q` over the first match of `Q`.
 fn instance_text(
     alloc: Global,
     graph: &mut EGraph<Small>,
@@ -139,7 +139,7 @@ fn unite_instances(alloc: Global, graph: &mut EGraph<Small>, texts: &str) -> Res
     union_instantiations(alloc, graph, &left, &right, &subst, None)
 }
 
-// Whether a term is looked up.
+// Returns whether a look-up of a term has an answer.
 fn is_found(alloc: Global, graph: &EGraph<Small>, term: &RecExpr<Small>) -> Result<bool, Error> {
     if !graph.is_valid_expr(term) {
         return Err(Error::Failed);
@@ -148,7 +148,7 @@ fn is_found(alloc: Global, graph: &EGraph<Small>, term: &RecExpr<Small>) -> Resu
     Ok(found.is_some())
 }
 
-// The same of the term that a text writes.
+// Returns whether a look-up of the term of a text has an answer.
 fn is_looked_up(alloc: Global, graph: &mut EGraph<Small>, text: &str) -> Result<bool, Error> {
     let term = graph.parse_expr(text)?;
     is_found(alloc, graph, &term)
@@ -166,7 +166,7 @@ fn joined(graph: &mut EGraph<Small>, word: &str, texts: &str) -> Result<bool, Er
     }
 }
 
-// How many answers a pattern has.
+// Returns how many matches a pattern has.
 fn count(alloc: Global, graph: &mut EGraph<Small>, text: &str) -> Result<usize, Error> {
     let searched = pattern(alloc, graph, text)?;
     if !graph.is_valid_pattern(&searched) {
@@ -176,7 +176,7 @@ fn count(alloc: Global, graph: &mut EGraph<Small>, text: &str) -> Result<usize, 
     Ok(found.len())
 }
 
-// What is answered by yes or no.
+// Returns the answer to a question of yes or no.
 fn is_so(alloc: Global, graph: &mut EGraph<Small>, word: &str, text: &str) -> Result<bool, Error> {
     match word {
         "apply" => apply_under(alloc, graph, Always, text),
@@ -190,7 +190,7 @@ fn is_so(alloc: Global, graph: &mut EGraph<Small>, word: &str, text: &str) -> Re
     }
 }
 
-// What is answered by a number.
+// Returns the answer to a question that has a number for its answer.
 fn number(
     alloc: Global,
     graph: &mut EGraph<Small>,
@@ -204,7 +204,7 @@ fn number(
     }
 }
 
-/// What is answered. A number and a yes or no take no memory.
+/// An answer. A number, a yes and a no take no memory.
 #[derive(Drop)]
 pub enum Told {
     Text(String),
@@ -213,7 +213,7 @@ pub enum Told {
 }
 
 impl Told {
-    /// Whether this is the answer that is wanted.
+    /// Returns whether this is the answer that is wanted.
     pub fn is(&self, wanted: &str) -> bool {
         match self {
             Told::Text(text) => text.as_str() == wanted,
@@ -223,7 +223,7 @@ impl Told {
     }
 }
 
-// What is answered to a word over a text.
+// Returns the answer to a word over a text.
 fn asked(alloc: Global, graph: &mut EGraph<Small>, word: &str, text: &str) -> Result<Told, Error> {
     match word {
         "asserted" | "proved" | "matches" => {
@@ -241,7 +241,7 @@ fn asked(alloc: Global, graph: &mut EGraph<Small>, word: &str, text: &str) -> Re
     }
 }
 
-/// What is answered to a question `WORD: TEXT`.
+/// Returns the answer to a question `WORD: TEXT`.
 pub fn answer(alloc: Global, graph: &mut EGraph<Small>, question: &str) -> Result<Told, Error> {
     let (word, text) = parted(question, ": ");
     asked(alloc, graph, word, text)

@@ -1,4 +1,4 @@
-//! What a failed graph refuses: each call over patterns and rules.
+//! Calls over patterns and rules that a failed graph refuses.
 use crate::graphs::put;
 use crate::own_methods::Asserting;
 use crate::own_rules::Union;
@@ -15,7 +15,7 @@ use slotted_terms::expr::RecExpr;
 use std::alloc::Global;
 use std::process::Abort;
 
-// The number of the refusal, or 0.
+// Returns the number of the error, or 0.
 fn refusal<T: Drop>(outcome: Result<T, Error>) -> u8 {
     match outcome {
         Ok(_) => 0,
@@ -23,7 +23,7 @@ fn refusal<T: Drop>(outcome: Result<T, Error>) -> u8 {
     }
 }
 
-// It finds nothing.
+// Asserts that a failed graph finds nothing.
 fn assert_finds_nothing(
     rt: &impl Abort,
     alloc: Global,
@@ -37,7 +37,7 @@ fn assert_finds_nothing(
     assert!(rt; graph.is_failed());
 }
 
-// It builds nothing.
+// Asserts that a failed graph builds nothing.
 fn assert_builds_nothing(
     rt: &impl Abort,
     alloc: Global,
@@ -51,7 +51,7 @@ fn assert_builds_nothing(
     assert!(rt; graph.is_failed());
 }
 
-// It unites nothing.
+// Asserts that a failed graph unites nothing.
 fn assert_unites_nothing(
     rt: &impl Abort,
     alloc: Global,
@@ -66,7 +66,7 @@ fn assert_unites_nothing(
     assert!(rt; graph.is_failed());
 }
 
-// No rule is valid in it, searches it or is applied to it.
+// Asserts that no rule is valid in a failed graph, searches the graph or is applied to it.
 fn assert_applies_nothing<R: RewriteT<Small, ()>>(
     rt: &impl Abort,
     alloc: Global,
@@ -83,7 +83,7 @@ fn assert_applies_nothing<R: RewriteT<Small, ()>>(
     assert!(rt; graph.is_failed());
 }
 
-// What a search found before the graph failed is not applied.
+// Asserts that what a search found before the graph failed is not applied.
 fn assert_found_stays<R: RewriteT<Small, ()>>(
     rt: &impl Abort,
     alloc: Global,
@@ -99,14 +99,14 @@ fn assert_found_stays<R: RewriteT<Small, ()>>(
     assert!(rt; graph.is_failed());
 }
 
-// A rule of the pattern `?x` and of that of a text.
+// Returns a rule of the pattern `?x` and of that of a text.
 fn rule(rt: &impl Abort, alloc: Global, graph: &mut EGraph<Small>) -> Rewrite<Small, CondTree> {
     let left = graph.parse_pattern("?x").expect(rt, "it reads");
     let right = graph.parse_pattern("(app ?x ?x)").expect(rt, "it reads");
     Rewrite::from_patterns(alloc, "rule", left, right, CondTree::Always).expect(rt, "it is a rule")
 }
 
-// A failed graph refuses each call that is handed a pattern, a rule or an id.
+// Asserts that a failed graph refuses each call over a pattern, a rule or an id.
 fn check_failed(rt: &impl Abort, alloc: Global, graph: &mut EGraph<Small>) {
     let rule = rule(rt, alloc, graph);
     let id = put(graph, "a").expect(rt, "memory is ample");
@@ -117,7 +117,7 @@ fn check_failed(rt: &impl Abort, alloc: Global, graph: &mut EGraph<Small>) {
     assert_applies_nothing(rt, alloc, graph, &[rule]);
 }
 
-// The same of a rule of a caller's own.
+// Asserts the same for a rule of a caller's own.
 fn check_own(rt: &impl Abort, alloc: Global, graph: &mut EGraph<Small>) {
     let left = put(graph, "a").expect(rt, "memory is ample");
     let right = put(graph, "b").expect(rt, "memory is ample");
@@ -126,7 +126,7 @@ fn check_own(rt: &impl Abort, alloc: Global, graph: &mut EGraph<Small>) {
     assert_applies_nothing(rt, alloc, graph, &[rule]);
 }
 
-// It looks nothing up.
+// Asserts that a failed graph looks nothing up.
 fn assert_looks_nothing_up(
     rt: &impl Abort,
     alloc: Global,
@@ -137,7 +137,7 @@ fn assert_looks_nothing_up(
     assert!(rt; refusal(lookup_rec_expr(alloc, term, graph)) == 3);
 }
 
-// A term that was read before the graph failed is not looked up.
+// Asserts that a term that was read before the graph failed is not looked up.
 fn check_look_up(rt: &impl Abort, alloc: Global, graph: &mut EGraph<Small>) {
     let term = graph.parse_expr("a").expect(rt, "it reads");
     graph.fail();

@@ -1,4 +1,4 @@
-//! What is made in a graph by texts.
+//! Terms, ids and patterns that texts make in a graph.
 use slotted_graph::EGraph;
 use slotted_patterns::Pattern;
 use slotted_slots::{AppliedId, Error};
@@ -6,7 +6,7 @@ use slotted_small::Small;
 use slotted_terms::expr::RecExpr;
 use std::alloc::Global;
 
-// The id of a term, if it is valid.
+// Adds a term, if the term is valid. Returns its id.
 fn put_term(graph: &mut EGraph<Small>, term: &RecExpr<Small>) -> Result<AppliedId, Error> {
     if graph.is_valid_expr(term) {
         graph.add_syn_expr(term)
@@ -15,13 +15,13 @@ fn put_term(graph: &mut EGraph<Small>, term: &RecExpr<Small>) -> Result<AppliedI
     }
 }
 
-/// The id of the term that a text writes.
+/// Adds the term of a text. Returns its id.
 pub fn put(graph: &mut EGraph<Small>, text: &str) -> Result<AppliedId, Error> {
     let term = graph.parse_expr(text)?;
     put_term(graph, &term)
 }
 
-/// Unites two ids, if they can be asked.
+/// Unites two ids, if they are valid.
 pub fn unite(
     graph: &mut EGraph<Small>,
     left: &AppliedId,
@@ -34,7 +34,7 @@ pub fn unite(
     }
 }
 
-/// Compares two ids, if they can be asked.
+/// Returns whether two ids are equal, if they are valid.
 pub fn compare(graph: &EGraph<Small>, left: &AppliedId, right: &AppliedId) -> Result<bool, Error> {
     if graph.is_valid(left) && graph.is_valid(right) {
         graph.eq(left, right)
@@ -43,7 +43,7 @@ pub fn compare(graph: &EGraph<Small>, left: &AppliedId, right: &AppliedId) -> Re
     }
 }
 
-/// The canonical term of an id, if it can be asked.
+/// Returns the canonical term of an id, if the id is valid.
 pub fn term_text(
     alloc: Global,
     graph: &mut EGraph<Small>,
@@ -56,7 +56,7 @@ pub fn term_text(
     term.text(alloc, graph.table())
 }
 
-/// A sum without summands, as a pattern, which no text writes.
+/// Returns a sum without summands, as a pattern, which no text writes.
 pub fn bare_sum(alloc: Global) -> Pattern<Small> {
     let node = Small::Add(AppliedId::null(alloc), AppliedId::null(alloc));
     Pattern::ENode(node, Vec::new(alloc))

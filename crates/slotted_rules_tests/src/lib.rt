@@ -1,5 +1,6 @@
-//! Tests of rules, conditions and methods of substitution of a caller's own, as tables of text. They stand in a crate of their own, since a crate
-//! with tests is proved twice.
+//! Tests of rules, conditions and methods of substitution of a caller's own, as tables of text.
+//!
+//! They stand in a crate of their own, since a crate with tests is proved twice.
 #![tactic(auto)]
 
 #[cfg(test)]

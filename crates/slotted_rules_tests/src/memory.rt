@@ -1,4 +1,4 @@
-//! A script in which memory ends. `rt try --test --fail-alloc N` has the Nth growth refused.
+//! A script in which memory ends. `rt try --test --fail-alloc N` refuses the Nth growth.
 use crate::asked::{answer, parted};
 use slotted_graph::EGraph;
 use slotted_slots::{Error, SlotTable};
@@ -6,7 +6,7 @@ use slotted_small::Small;
 use std::alloc::Global;
 use std::process::Abort;
 
-// Each question with its answer where memory is ample.
+// Each question with its answer if memory is ample.
 const SCRIPT: &str = "equal: (lam $x (app (f $x $y) (g $x))) == a => no
 apply: (lam $x (app ?f (var $x))) ~> ?f => no
 equal: (lam $x (app a (var $x))) == a => no
@@ -25,7 +25,7 @@ apply refusing: (app ?x ?x) ~> c => NotATerm
 apply first: (app ?x ?x) ~> c => no
 asserted => 4";
 
-// Whether an answer is the wanted one. None where memory was refused.
+// Returns whether an answer is the wanted one, or `None` if memory was refused.
 fn is_answered(alloc: Global, graph: &mut EGraph<Small>, row: &str) -> Option<bool> {
     let (question, wanted) = parted(row, " => ");
     match answer(alloc, graph, question) {
@@ -35,8 +35,8 @@ fn is_answered(alloc: Global, graph: &mut EGraph<Small>, row: &str) -> Option<bo
     }
 }
 
-// Asks a question, and once more where memory was refused and the graph has not failed: nothing was asserted then. Says whether the graph
-// has not failed.
+// Asks a question, and once more if memory was refused and the graph has not failed, since nothing was asserted then.
+// Returns whether the graph has not failed.
 fn goes_on(rt: &impl Abort, alloc: Global, graph: &mut EGraph<Small>, row: &str) -> bool {
     let asserted = graph.asserted().len();
     let first = is_answered(alloc, graph, row);
@@ -53,7 +53,7 @@ fn goes_on(rt: &impl Abort, alloc: Global, graph: &mut EGraph<Small>, row: &str)
     true
 }
 
-// Walks through the rows up to the end, or to the first write that is refused.
+// Asks the rows up to the end, or to the first write that is refused.
 fn walk(rt: &impl Abort, alloc: Global, graph: &mut EGraph<Small>, rows: &str) {
     for row in rows.lines() {
         if !goes_on(rt, alloc, graph, row) {

@@ -8,7 +8,7 @@ use slotted_rules::Cond;
 use slotted_slots::Error;
 use std::alloc::Global;
 
-/// Holds as long as nothing was asserted.
+/// The condition that holds as long as nothing was asserted.
 #[derive(Drop)]
 pub struct FirstOnly;
 
@@ -30,7 +30,7 @@ impl<L: Language, N: Analysis<L>> Cond<L, N> for FirstOnly {
     }
 }
 
-/// Refuses once something was asserted.
+/// The condition that is refused once something was asserted.
 #[derive(Drop)]
 pub struct RefusesLater;
 

@@ -7,7 +7,7 @@ use slotted_languages::Language;
 use slotted_slots::{AppliedId, Error};
 use std::alloc::Global;
 
-/// Answers the body as it is, and asserts that the part is equal to the value.
+/// The method that returns the body as it is, and asserts that the part is equal to the value.
 #[derive(Drop)]
 pub struct Asserting;
 

@@ -8,7 +8,7 @@ use slotted_rules::RewriteT;
 use slotted_slots::{AppliedId, Error};
 use std::alloc::Global;
 
-/// Looks for nothing, and unites two ids.
+/// The rule that searches for nothing, and unites two ids.
 #[derive(Drop)]
 pub struct Union {
     pub left: AppliedId,

@@ -1,4 +1,4 @@
-//! Tables of what is answered to questions, each row `WORD: TEXT => ANSWER`, over a graph of its own.
+//! Tables of questions with their answers, each row `WORD: TEXT => ANSWER`, over a graph of its own.
 use crate::asked::{answer, parted};
 use slotted_graph::{EGraph, SubstMethod};
 use slotted_slots::{Error, SlotTable};
@@ -6,7 +6,7 @@ use slotted_small::Small;
 use std::alloc::Global;
 use std::process::Abort;
 
-// Asks a question. A refusal is told by its name.
+// Asks a question. An error is told by its name.
 fn ask(rt: &impl Abort, alloc: Global, graph: &mut EGraph<Small>, row: &str) {
     let (question, wanted) = parted(row, " => ");
     match answer(alloc, graph, question) {
@@ -22,7 +22,7 @@ fn ask_all(rt: &impl Abort, alloc: Global, graph: &mut EGraph<Small>, rows: &str
     }
 }
 
-// Asks them of a new graph. Its substitutions look into the terms that the method says.
+// Asks the rows over a new graph, whose substitutions look into the terms that the method says.
 fn check_by(rt: &impl Abort, alloc: Global, method: SubstMethod, rows: &str) {
     let made: Result<EGraph<Small>, Error> = EGraph::with_subst_method(
         alloc,
@@ -34,12 +34,12 @@ fn check_by(rt: &impl Abort, alloc: Global, method: SubstMethod, rows: &str) {
     ask_all(rt, alloc, &mut graph, rows);
 }
 
-// The same by canonical terms.
+// Asks the rows over a new graph, whose substitutions look into canonical terms.
 fn check(rt: &impl Abort, alloc: Global, rows: &str) {
     check_by(rt, alloc, SubstMethod::SynExpr, rows);
 }
 
-// The first of two answers is applied, and the condition refuses the second. The refusal of the condition is answered.
+// The first of two matches is applied, and the condition refuses the second. The error of the condition is returned.
 const REFUSED: &str = "equal: (app a a) == (app b b) => no
 matches: (app ?x ?x) => 2
 apply refusing: (app ?x ?x) ~> c => NotATerm
@@ -55,7 +55,7 @@ fn what_was_applied_before_a_refusal_stays(rt: HostRuntime) {
     check(&rt, rt.alloc(), REFUSED);
 }
 
-// The condition is asked just before each answer is applied, and not of all answers first.
+// The condition is asked just before each match is applied, and not for all matches first.
 const FIRST: &str = "equal: (app a a) == (app b b) => no
 apply first: (app ?x ?x) ~> c => yes
 asserted => 1
@@ -81,7 +81,7 @@ fn a_rule_of_a_callers_own_is_applied(rt: HostRuntime) {
     check(&rt, rt.alloc(), OWN_RULE);
 }
 
-// The body is answered as it is, and the part is equal to the value from then on.
+// The body is returned as it is, and the part is equal to the value from then on.
 const OWN_METHOD: &str = "subst: (app a c)[a := d] => (app d c)
 asserted => 0
 equal: a == d => no
@@ -97,7 +97,8 @@ fn a_method_of_a_callers_own_is_asked(rt: HostRuntime) {
     check(&rt, rt.alloc(), OWN_METHOD);
 }
 
-// The class of both terms keeps the canonical node of `(app a b)`, since it is in a node. So that is what is looked into.
+// The class of both terms keeps the syntactic e-node of `(app a b)`, since an e-node is over it. So the substitution
+// looks into that.
 const CANONICAL: &str = "equal: (add (app a b) e) == e => no
 union: (app a b) == c => yes
 subst: (app a b)[a := d] => (app d b)
@@ -110,7 +111,7 @@ fn canonical_terms_are_looked_into(rt: HostRuntime) {
     check_by(&rt, rt.alloc(), SubstMethod::SynExpr, CANONICAL);
 }
 
-// The word has fewer nodes.
+// The word has fewer e-nodes.
 const EXTRACTED: &str = "equal: (add (app a b) e) == e => no
 union: (app a b) == c => yes
 subst: (app a b)[a := d] => c
@@ -123,7 +124,7 @@ fn terms_of_fewest_nodes_are_looked_into(rt: HostRuntime) {
     check_by(&rt, rt.alloc(), SubstMethod::Extraction, EXTRACTED);
 }
 
-// A sum without summands is found nowhere, and has no instance. On the right it is refused where something is found.
+// A sum without summands has no match and no instance. On the right side, it is refused if there is a match.
 const BARE: &str = "equal: (add a b) == c => no
 matches: bare => 0
 subst: bare => NotATerm
@@ -140,7 +141,7 @@ fn a_wrong_number_of_child_patterns_is_no_pattern(rt: HostRuntime) {
     check(&rt, rt.alloc(), BARE);
 }
 
-// What is united over no values, and what is looked up without being added.
+// Unions over no values, and look-ups that add nothing.
 const CALLS: &str = "looked up: (app a b) => no
 unite: (app a b) ~> c => yes
 unite: (app a b) ~> c => no

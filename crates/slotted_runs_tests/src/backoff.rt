@@ -1,4 +1,4 @@
-//! A scheduler of one's own: a rule around another, which rests after a search that found too much.
+//! A scheduler of a caller's own: a rule around another, which rests after a search that found too much.
 ghost use Rattle.std.specs.Prelude.{◌≡◌, ◌⊎◌, [], string_bytes};
 ghost use Rattle.slotted_operations.specs.Graph.{OnlyTakesSlots};
 ghost use Rattle.slotted_patterns.specs.View.{tree_of};
@@ -16,8 +16,9 @@ use std::cell::Cell;
 
 /// A written rule that finds nothing for some turns after a search with more than `most` matches.
 ///
-/// The first rest takes `rest` turns. After each rest the rule may find twice as much as before, and the next rest takes twice as long. A run that ends as
-/// saturated while a rule rests is not saturated: ask `is_resting`, and run again.
+/// The first rest takes `rest` turns. After each rest the rule may find twice as much as before, and the next rest
+/// takes twice as long. A run that ends as saturated while a rule rests is not saturated: ask `is_resting`, and run
+/// again.
 #[derive(Drop)]
 pub struct Backoff<L: Language, C: Drop> {
     pub rule: Rewrite<L, C>,
@@ -36,12 +37,12 @@ impl<L: Language, C: Drop> Backoff<L, C> {
         }
     }
 
-    /// Returns whether the next search will find nothing, whatever is there.
+    /// Returns whether the next search will find nothing, whatever the graph has.
     pub fn is_resting(&self) -> bool {
         self.left.get() > 0
     }
 
-    // What was found, or nothing if that is too much. Then a rest begins.
+    // Returns the matches, or none if they are too many. Then a rest begins.
     fn cut(&self, alloc: Global, found: Matches) -> Matches
         ensures { (result ≡ found) ⊎ (result ≡ []) }
     {

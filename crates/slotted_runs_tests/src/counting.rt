@@ -1,4 +1,4 @@
-//! A rule that adds a node in each turn.
+//! A rule that adds an e-node in each turn.
 ghost use Rattle.std.specs.Prelude.{◌≡◌, ⊤, false};
 ghost use Rattle.slotted_graph.specs.Extension.{ExtendsTo};
 
@@ -9,7 +9,7 @@ use slotted_slots::Error;
 use slotted_small::Small;
 use std::alloc::Global;
 
-/// The rule that adds the number of nodes as a node, while there are fewer than `most`.
+/// The rule that adds the number of e-nodes as an e-node, while there are fewer than `most`.
 #[derive(Drop)]
 pub struct Counting {
     pub most: u32,

@@ -1,4 +1,4 @@
-//! What each rule did in each turn, and a rule that rests.
+//! Counts of each rule in each turn, and a rule that rests.
 use crate::backoff::Backoff;
 use slotted_graph::EGraph;
 use slotted_rules::{Always, Rewrite, RewriteT, TurnCounts, apply_rewrites, are_valid};
@@ -29,7 +29,7 @@ fn rule(
     Rewrite::from_patterns(alloc, "rule", left, right, Always).expect(rt, "it is a rule")
 }
 
-// The turns of one rule over a graph.
+// Returns the turns of one rule over a graph.
 fn counted(
     rt: &impl Abort,
     alloc: Global,
@@ -43,7 +43,7 @@ fn counted(
     run_counted(alloc, graph, &rules, turn_limit).expect(rt, "it runs")
 }
 
-// The one rule found and united so much in this turn.
+// Asserts that the one rule found and united so much in this turn.
 fn assert_turn(
     rt: &impl Abort,
     turns: &[TurnCounts],
@@ -89,7 +89,7 @@ fn turns_end_at_the_limit(rt: HostRuntime) -> Result<(), Error> {
     Ok(())
 }
 
-// Whether rules applied once change the graph.
+// Returns whether rules change the graph if they are applied once.
 fn changes<R: RewriteT<Small, ()>>(
     rt: &impl Abort,
     alloc: Global,
@@ -100,7 +100,8 @@ fn changes<R: RewriteT<Small, ()>>(
     apply_rewrites(alloc, graph, rules).expect(rt, "it applies")
 }
 
-// The rule that exchanges the parts of sums, which may find two sums and rests for two turns if it finds more.
+// Returns a rule that exchanges the parts of sums. The rule may find two sums, and rests for two turns if it finds
+// more.
 fn exchanging(rt: &impl Abort, alloc: Global, graph: &mut EGraph<Small>) -> Backoff<Small, Always> {
     Backoff::new(rule(rt, alloc, graph, "(add ?a ?b)", "(add ?b ?a)"), 2, 2)
 }

@@ -1,4 +1,4 @@
-//! A clock of given times, and a hook that has enough.
+//! A clock of given times, and a hook that stops a run.
 ghost use Rattle.std.specs.Prelude.{◌≡◌, ⊤};
 
 use slotted_analyses::Analysis;
@@ -23,7 +23,7 @@ impl Clock for Times {
     }
 }
 
-/// The hook that stops the run once so many turns are there.
+/// The hook that stops the run once so many turns were taken.
 #[derive(Drop)]
 pub struct Enough {
     pub at: usize,

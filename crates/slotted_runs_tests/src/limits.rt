@@ -1,4 +1,4 @@
-//! Limits of time, and times of reports.
+//! Limits of time, and the times of reports.
 use crate::doubles::Times;
 use crate::turns::{Counted, counted_at_once, report_of};
 use slotted_runs::{NoHook, Runner, StopReason};
@@ -6,7 +6,7 @@ use slotted_slots::{Error, SlotTable};
 use std::alloc::Global;
 use std::collections::VecDeque;
 
-// The clock of these times.
+// Returns the clock of these times.
 fn times(alloc: Global, given: &[u64]) -> Result<Times, Error> {
     let mut left = VecDeque::new(alloc);
     for &time in given {

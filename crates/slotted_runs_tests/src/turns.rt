@@ -1,4 +1,4 @@
-//! Why runs stop, how many turns they take, and what they report.
+//! The reasons for which runs stop, how many turns they take, and their reports.
 use crate::counting::Counting;
 use crate::doubles::{Enough, Times};
 use slotted_graph::EGraph;
@@ -11,7 +11,7 @@ use std::process::Abort;
 
 pub(crate) type Counted<H> = Runner<Small, (), (), String, H, Times>;
 
-// A clock that stands still.
+// Returns a clock that stands still.
 fn still(alloc: Global) -> Times {
     Times {
         left: VecDeque::new(alloc),
@@ -22,7 +22,7 @@ fn runner(alloc: Global) -> Result<Counted<NoHook>, Error> {
     Runner::new(alloc, SlotTable::new(alloc), (), still(alloc))
 }
 
-// What a runner reports under one rule that adds a node in each turn, up to so many.
+// Returns the report of a runner under one rule that adds an e-node in each turn, up to so many.
 pub(crate) fn counted<H: Hook<Small, (), String>>(
     runner: &mut Counted<H>,
     most: u32,
@@ -30,7 +30,7 @@ pub(crate) fn counted<H: Hook<Small, (), String>>(
     runner.run(&[Counting { most }])
 }
 
-// The same of a runner that is given up.
+// Returns the report of a runner that is given up.
 pub(crate) fn report_of<H: Hook<Small, (), String>>(
     mut runner: Counted<H>,
     most: u32,
@@ -38,14 +38,14 @@ pub(crate) fn report_of<H: Hook<Small, (), String>>(
     counted(&mut runner, most)
 }
 
-// What a runner reports twice.
+// Returns the reports of a runner that is run twice.
 fn reports_of(mut runner: Counted<NoHook>, most: u32) -> Result<(Report, Report), Error> {
     let first = counted(&mut runner, most)?;
     let again = counted(&mut runner, most)?;
     Ok((first, again))
 }
 
-// The same of a run without a runner, from the empty graph, with limits of turns and of seconds.
+// Returns the report of a run without a runner, from the empty graph, with limits of turns and of seconds.
 pub(crate) fn counted_at_once(
     alloc: Global,
     most: u32,
@@ -66,7 +66,7 @@ pub(crate) fn counted_at_once(
     )
 }
 
-// The first letter of the reason, or of the hook's own.
+// Returns the first letter of the reason, or of the hook's own.
 fn letter(report: &Report) -> u8 {
     match &report.stop_reason {
         StopReason::Saturated => b'S',

@@ -1,13 +1,13 @@
-//! Handles of a workspace, and those that are refused.
+//! Handles of a workspace, and handles that are refused.
 use slotted_small::Small;
 use slotted_workspace::{Handle, Workspace, WorkspaceError};
 
-// Whether a handle was refused.
+// Returns whether a handle was refused.
 fn is_unknown<T: Drop>(outcome: Result<T, WorkspaceError>) -> bool {
     matches!(outcome, Err(WorkspaceError::UnknownHandle))
 }
 
-// Handles count the terms, and those of other workspaces are refused.
+// Returns whether handles count the terms, and those of other workspaces are refused.
 fn are_told_apart(workspace: &mut Workspace<Small>) -> Result<bool, WorkspaceError> {
     let first = workspace.add("(app a b)")?;
     let second = workspace.add("(app a b)")?;
