@@ -18,17 +18,17 @@ use Rattle.slotted_operations.proofs.sides.class_equation.Goals as goal
 own-keys : (i : ℕ) (S : List ℕ) (a : Applied) → a ≡ (i, identity S) → keys a.1 ≡ S
 own-keys i S a e = ap (λ (x : Applied). keys x.1) e ∙ keys-identity S
 
-pub own_id-left-requires-clause-rows : goal.own_id-left-requires-clause-rows
-own_id-left-requires-clause-rows g c = c.requires.good.rows
+pub own_id-requires-clause-rows : goal.own_id-requires-clause-rows
+own_id-requires-clause-rows g c = c.requires.good.rows
 
-pub own_id-left-requires-clause-within : goal.own_id-left-requires-clause-within
-own_id-left-requires-clause-within g c = omega (arith, c.requires.left.in_range, length-nodes_of c.args.store.now)
+pub own_id-requires-clause-within : goal.own_id-requires-clause-within
+own_id-requires-clause-within g c = omega (arith, c.requires.left.in_range, length-nodes_of c.args.store.now)
 
-pub own_id-right-requires-clause-rows : goal.own_id-right-requires-clause-rows
-own_id-right-requires-clause-rows g c = c.requires.good.rows
+pub own_id-requires-2-clause-rows : goal.own_id-requires-2-clause-rows
+own_id-requires-2-clause-rows g c = c.requires.good.rows
 
-pub own_id-right-requires-clause-within : goal.own_id-right-requires-clause-within
-own_id-right-requires-clause-within g c = omega (arith, c.requires.right.in_range, length-nodes_of c.args.store.now)
+pub own_id-requires-2-clause-within : goal.own_id-requires-2-clause-within
+own_id-requires-2-clause-within g c = omega (arith, c.requires.right.in_range, length-nodes_of c.args.store.now)
 
 pub equation_over-requires-clause-different : goal.equation_over-requires-clause-different
 equation_over-requires-clause-different g c = c.requires.left.injective
