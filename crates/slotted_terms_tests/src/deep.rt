@@ -9,7 +9,7 @@ use std::process::Abort;
 
 const LEVELS: usize = 100_000;
 
-// `(lam $x (lam $x .. ))` of so many levels over this text.
+// Returns `(lam $x (lam $x .. ))` of so many levels over this text.
 fn deep_text(alloc: Global, inner: &str, levels: usize) -> Result<String, Error> {
     let mut text = String::new(alloc);
     for _level in 0..levels {
@@ -22,7 +22,7 @@ fn deep_text(alloc: Global, inner: &str, levels: usize) -> Result<String, Error>
     Ok(text)
 }
 
-// The pattern of a text, and its copy, print as that text.
+// Asserts that the pattern of a text, and its copy, print as that text.
 fn check_pattern(rt: &impl Abort, alloc: Global, text: &str) -> Result<(), Error> {
     let mut table = SlotTable::new(alloc);
     let pattern = Pattern::<Small>::parse(alloc, text, &mut table)?;
@@ -34,7 +34,7 @@ fn check_pattern(rt: &impl Abort, alloc: Global, text: &str) -> Result<(), Error
     Ok(())
 }
 
-// The term of a text prints as that text.
+// Asserts that the term of a text prints as that text.
 fn check_term(rt: &impl Abort, alloc: Global, text: &str) -> Result<(), Error> {
     let mut table = SlotTable::new(alloc);
     let term = RecExpr::<Small>::parse(alloc, text, &mut table)?;
@@ -43,7 +43,7 @@ fn check_term(rt: &impl Abort, alloc: Global, text: &str) -> Result<(), Error> {
     Ok(())
 }
 
-// The term of a text is alpha-equal to its copy, whose pattern prints as that text.
+// Asserts that the term of a text is alpha-equal to its copy, whose pattern prints as that text.
 fn check_copied(rt: &impl Abort, alloc: Global, text: &str) -> Result<(), Error> {
     let mut table = SlotTable::new(alloc);
     let term = RecExpr::<Small>::parse(alloc, text, &mut table)?;
