@@ -2,10 +2,10 @@
 use Rattle.std.proofs.Common.{ℕ, List, subst, sym, inl, inr}
 use Rattle.std.proofs.lemmas.List.Elements.{All-contains}
 use Rattle.std.specs.Prelude.{IsTrue}
-use Rattle.slotted_slots.specs.Table.{Table, is_known}
+use Rattle.slotted_slots.specs.Table.{Table, is_known, AllKnown}
 use Rattle.slotted_slots.proofs.TableLaws.{is_known-numeric_slot}
 use Rattle.slotted_theory.specs.Term.{Args, Term, done, name, child, bind}
-use Rattle.slotted_terms.specs.Valid.{AllKnown, HasKnownNames, IsValidTerm}
+use Rattle.slotted_terms.specs.Valid.{HasKnownNames, IsValidTerm}
 use Rattle.slotted_analyses.specs.declared.edit.Edit.{Edit}
 use Rattle.slotted_analyses.specs.declared.edit.Edit.TheVariants.{Add, Equal, Equate}
 use Rattle.slotted_analyses.specs.Edits.{EachName, IsNumericOrAmong, IsOver, IsTermOver, IsValidEdit}

@@ -13,3 +13,5 @@ mod Sizes
 mod CountedClasses
 pub mod Chasing
 pub mod StoredFinds
+pub mod ClassNodes
+pub mod OwnIds

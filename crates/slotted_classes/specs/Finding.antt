@@ -3,10 +3,11 @@
 --     IsFindable k a     the id has different names for all slots that its class finds, and perhaps for more of its canonical slots
 --     HasFoundNames k a  it has a name for each slot that its class finds
 --     FindAlike          two ids find the same
-use Rattle.std.specs.Prelude.{◌≡◌, ℕ, List, Contains}
+--     LivesWithAll k a   the class of the id lives, with as many slots as the id has names
+use Rattle.std.specs.Prelude.{◌≡◌, ℕ, List, Contains, length}
 use Rattle.slotted_model.specs.Applied.{Applied, keys}
 use Rattle.slotted_model.specs.Filling.{IsValid}
-use Rattle.slotted_model.specs.Find.{Entry, Linked, find, find_map, used_slots}
+use Rattle.slotted_model.specs.Find.{Entry, IsLive, Linked, entry_at, find, find_map, used_slots}
 use Rattle.slotted_model.specs.Link.{IsLater}
 use Rattle.slotted_classes.specs.Kept.{Kept, nodes_of, entries_of}
 
@@ -30,3 +31,7 @@ HasFoundNames k a = (s : ℕ) → Contains (used_slots (entries_of k) a.0) s →
 -- two ids find the same
 abbrev pub FindAlike : List Entry → Applied → Applied → Type 0
 FindAlike found a b = find found a ≡ find found b
+
+-- the class of the id lives, and has as many slots left as the id has names
+abbrev pub LivesWithAll : Kept → Applied → Type 0
+LivesWithAll k a = IsLive (entries_of k) a.0 × (length (entry_at (entries_of k) a.0).pairs ≡ length a.1)

@@ -2,11 +2,14 @@
 ghost use Rattle.std.specs.Prelude.{◌≡◌, ◌<◌, ◌↔◌, length, IsTrue, IfOk, IfErr};
 ghost use Rattle.slotted_slots.specs.Error.{IsOutOfMemory};
 ghost use Rattle.slotted_theory.specs.FiniteMaps.{value_of};
+ghost use Rattle.slotted_model.specs.Classes.{canonical_slots};
+ghost use Rattle.slotted_model.specs.Correspondence.{identity};
 ghost use Rattle.slotted_model.specs.Find.{IsLive, find_class, find_map, find};
-ghost use Rattle.slotted_classes.specs.Kept.{entries_of};
+ghost use Rattle.slotted_classes.specs.Kept.{entries_of, nodes_of, rows_from};
 ghost use Rattle.slotted_proofs.specs.Equations.{to_applied};
-ghost use Rattle.slotted_classes.specs.Finding.{HasFinds, HasFoundName, HasFoundNames, IsFindable, FindAlike};
+ghost use Rattle.slotted_classes.specs.Finding.{HasFinds, HasFoundName, HasFoundNames, IsFindable, FindAlike, LivesWithAll};
 
+use crate::names::map_between;
 use crate::store::Store;
 use slotted_languages::Language;
 use slotted_slots::{AppliedId, Error, Id, Slot, SlotMap};
@@ -93,6 +96,16 @@ impl<L: Language> Store<L> {
         self.have_same_names(class, a, b)
     }
 
+    /// Returns whether the class of an id is live, and has as many slots left as the id has names. A valid id is
+    /// canonical exactly then. Takes no memory.
+    pub fn is_canonical(&self, a: &AppliedId) -> bool
+        requires { a.now.id.0 < length self.now.classes }
+        ensures { IsTrue result ↔ LivesWithAll self.now (to_applied a.now) }
+    {
+        let entry = self.entry(a.id.0);
+        entry.id.0 == a.id.0 && entry.m.len() == a.m.len()
+    }
+
     // Returns whether an id has a name for a slot of its live class.
     fn has_found_name(&self, a: &AppliedId, slot: Slot) -> bool
         requires good { HasFinds self.now }
@@ -135,6 +148,20 @@ impl<L: Language> Store<L> {
         }
         let map = self.found_map(alloc, entry.id.0)?;
         map.compose_partial(alloc, &entry.m)
+    }
+
+    /// Returns the class with each of its canonical slots as its name.
+    pub fn own_id(&self, alloc: Global, class: usize) -> Result<AppliedId, Error>
+        requires rows { self.now.rows ≡ rows_from 0 self.now.classes }
+        requires within { class < length self.now.classes }
+        ensures ok { IfOk result (λ a. to_applied a ≡ (class, identity (canonical_slots (nodes_of self.now) class))) }
+        ensures err { IfErr result IsOutOfMemory }
+    {
+        let slots = self.names_of(class);
+        Ok(AppliedId {
+            id: Id(class),
+            m: map_between(alloc, slots, slots)?,
+        })
     }
 
     /// Returns what `find` maps a valid id to: its live class, with the names that it keeps.

@@ -6,7 +6,7 @@ ghost use Rattle.slotted_nodes.specs.Form.{IsSmall};
 ghost use Rattle.slotted_classes.specs.Names.{between, with_put};
 
 use slotted_languages::Language;
-use slotted_slots::{Error, Slot, SlotMap};
+use slotted_slots::{Error, SlotMap};
 use std::alloc::Global;
 
 /// Returns the map from the values of one map to those of another, place by place.
@@ -33,24 +33,12 @@ pub fn put_at_places<L: Language>(node: &mut L, map: &SlotMap)
     }
 }
 
-/// Returns whether the slot is a value of the map.
-pub fn has_value(map: &SlotMap, slot: Slot) -> bool
-    ensures { IsTrue result ↔ Contains (values map.now) slot }
-{
-    for i in 0..map.len() {
-        if map.value_at(i) == slot {
-            return true;
-        }
-    }
-    false
-}
-
 // Returns whether each value of the first map is one of the other.
 fn has_values_of(map: &SlotMap, other: &SlotMap) -> bool
     ensures { IsTrue result ↔ ((x : ℕ) → Contains (values map.now) x → Contains (values other.now) x) }
 {
     for i in 0..map.len() {
-        if !has_value(other, map.value_at(i)) {
+        if !other.has_value(map.value_at(i)) {
             return false;
         }
     }

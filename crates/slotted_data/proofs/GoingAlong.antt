@@ -25,11 +25,11 @@ use Rattle.slotted_classes.specs.Kept.{Kept, ListsDead, node_at, nodes_of, entri
 use Rattle.slotted_classes.proofs.KeptLists.{length-nodes_of, length-entries_of}
 use Rattle.slotted_hashcons.specs.Filed.{Filing}
 use Rattle.slotted_hashcons.specs.FiledRows.{IsFiled, Rows, rows_in}
-use Rattle.slotted_hashcons.proofs.CanonicalChildren.{node-is}
+use Rattle.slotted_classes.proofs.ClassNodes.{node-is}
 use Rattle.slotted_hashcons.proofs.FiledRows.{source-filed}
 use Rattle.slotted_rebuilding.specs.Counted.{CountsFit, CountsGo}
 use Rattle.slotted_hashcons.specs.WellFiled.{state_in}
-use Rattle.slotted_rebuilding.proofs.CountedRebuilds.{counts-same}
+use Rattle.slotted_rebuilding.proofs.RebuildCounts.{counts-same}
 use Rattle.slotted_analyses.specs.Meaning.{Meaning, by_bare_nodes}
 use Rattle.slotted_analyses.proofs.Merging.{makes-alike}
 use Rattle.slotted_data.specs.Held.{DataCounts, Held, users_of, with_carried}

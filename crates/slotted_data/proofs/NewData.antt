@@ -17,7 +17,7 @@ use Rattle.slotted_model.proofs.Rebuilding.KeepingLookUps.{children-below}
 use Rattle.slotted_classes.specs.Kept.{Kept, node_at, nodes_of, entries_of}
 use Rattle.slotted_classes.proofs.KeptLists.{length-nodes_of}
 use Rattle.slotted_hashcons.specs.FiledRows.{HasChildrenBelow, key_children}
-use Rattle.slotted_hashcons.proofs.CanonicalChildren.{node-is}
+use Rattle.slotted_classes.proofs.ClassNodes.{node-is}
 use Rattle.slotted_hashcons.proofs.Places.{at-append_end}
 use Rattle.slotted_hashcons.proofs.Flags.{different-added}
 use Rattle.slotted_hashcons.proofs.KeyChildren.{key_children-read}

@@ -6,7 +6,7 @@ use Rattle.slotted_classes.specs.Counts.{noted}
 use Rattle.slotted_classes.specs.Kept.{Kept}
 use Rattle.slotted_hashcons.specs.FiledRows.{Rows}
 use Rattle.slotted_rebuilding.specs.Counted.{CountsFit, CountsGo}
-use Rattle.slotted_rebuilding.proofs.CountedRebuilds.{counts-same, counts-then, noted-fits, noted-goes}
+use Rattle.slotted_rebuilding.proofs.RebuildCounts.{counts-same, counts-then, noted-fits, noted-goes}
 use Rattle.slotted_data.specs.Held.{DataCounts, Held}
 use Rattle.slotted_data.specs.Counted.{turned, with_turns}
 use Rattle.slotted_data.specs.Carrying.{Carried, DataRests, MergesIn}

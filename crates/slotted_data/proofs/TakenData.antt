@@ -25,7 +25,7 @@ use Rattle.slotted_classes.specs.Kept.{Kept, nodes_of, entries_of}
 use Rattle.slotted_classes.proofs.KeptLists.{length-entries_of, length-nodes_of}
 use Rattle.slotted_hashcons.specs.Filed.{filed_of}
 use Rattle.slotted_hashcons.specs.FiledRows.{IsFiled, Rows, key_children, row_of_entry, rows_in, HasChildrenBelow}
-use Rattle.slotted_hashcons.proofs.CanonicalChildren.{node-is}
+use Rattle.slotted_classes.proofs.ClassNodes.{node-is}
 use Rattle.slotted_hashcons.proofs.FiledRows.{row-children, row-filed, source-filed, sources-different}
 use Rattle.slotted_hashcons.specs.WellFiled.{state_in}
 use Rattle.slotted_bare_nodes.specs.BareNodes.{bare_node}

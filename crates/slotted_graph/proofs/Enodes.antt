@@ -9,12 +9,11 @@ use Rattle.std.proofs.lemmas.List.Sorted.{IsPermutation-refl, length_permutation
 use Rattle.std.proofs.lemmas.List.Sums.{sum_by-cons}
 use Rattle.slotted_theory.specs.Nameless.{DTerm}
 use Rattle.slotted_theory.specs.Shape as theory
-use Rattle.slotted_slots.specs.Table.{Table, is_known, slot_limit}
+use Rattle.slotted_slots.specs.Table.{Table, is_known, slot_limit, AllKnown}
 use Rattle.slotted_slots.proofs.TableLaws.{is_known-numeric_slot}
 use Rattle.slotted_nodes.specs.Form.{Form, IsSmall}
 use Rattle.slotted_languages.specs.NodeTerm.{nameless_node}
 use Rattle.slotted_languages.specs.Shape.{Fits}
-use Rattle.slotted_terms.specs.Valid.{AllKnown}
 use Rattle.slotted_model.specs.Applied.{Applied, values}
 use Rattle.slotted_model.specs.Find.{find_class}
 use Rattle.slotted_model.specs.State.{Row}

@@ -12,7 +12,7 @@ use Rattle.slotted_proofs.specs.Equations.{to_applied}
 use Rattle.slotted_operations.specs.Graph.{Graph, IsFullId, OnlyReads, OnlyTakesSlots, RecordsUnion}
 use Rattle.slotted_operations.specs.Image.{AddsClasses, FillApart, FoundAlike, Image, IsUnion, asserted_in}
 use Rattle.slotted_rebuilding.specs.Counted.{CountsGo}
-use Rattle.slotted_rebuilding.proofs.CountedRebuilds.{counts-same, counts-then}
+use Rattle.slotted_rebuilding.proofs.RebuildCounts.{counts-same, counts-then}
 use Rattle.slotted_operations.proofs.CallerLemmas.{id_later, valid_later, valid_read, valid_united}
 use Rattle.slotted_operations.proofs.YesesStay.{alike_later, alike_united}
 use Rattle.slotted_graph.specs.Extension.{Begins, ExtendsTo, IsBetween}

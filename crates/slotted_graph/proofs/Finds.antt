@@ -5,8 +5,7 @@ use Rattle.std.specs.Prelude.{Bool, true, false, cond, slice_index_or, Contains,
 use Rattle.std.proofs.lemmas.List.Elements.{Contains-append_left, Contains-append_right}
 use Rattle.std.proofs.lemmas.List.{get_or_default}
 use Rattle.slotted_slots.specs.declared.error.Error.{Error}
-use Rattle.slotted_slots.specs.Table.{Table}
-use Rattle.slotted_terms.specs.Valid.{AllKnown}
+use Rattle.slotted_slots.specs.Table.{Table, AllKnown}
 use Rattle.slotted_nodes.specs.Form.{Form, children}
 use Rattle.slotted_languages.specs.Shape.{Fits}
 use Rattle.slotted_languages.specs.NodeTerm.{nameless_node}

@@ -5,11 +5,10 @@ use Rattle.std.specs.List.{list_all}
 use Rattle.std.proofs.Math.Dec.{ltb}
 use Rattle.std.proofs.lemmas.Bool.{false≢true, lt-ltb}
 use Rattle.std.proofs.lemmas.List.Elements.{All-from_recursion, recursion_from_All}
-use Rattle.slotted_slots.specs.Table.{KnowsMore, Table, is_known, slot_limit}
+use Rattle.slotted_slots.specs.Table.{KnowsMore, Table, is_known, slot_limit, AllKnown}
 use Rattle.slotted_nodes.specs.Form.{Form, IsSmall}
 use Rattle.slotted_patterns.specs.Known.{AreKnown, HasKnownNames, HaveKnownNames}
 use Rattle.slotted_patterns.specs.Tree.{PatternTree, PatternRow, enode, pvar, substitution, no_more, one_more}
-use Rattle.slotted_terms.specs.Valid.{AllKnown}
 use Rattle.slotted_rule_patterns.specs.Inside.{first_such}
 use Rattle.slotted_rule_patterns.proofs.FirstInside.{asked-node, asked-row, asked-substitution, row_such}
 use Rattle.slotted_rule_patterns.proofs.Questions.{neither, or-false, twice}

@@ -6,7 +6,7 @@ use Rattle.std.proofs.lemmas.List.Elements.{All-contains, Contains-append_left, 
 use base.Stored.{Gv}
 use Rattle.slotted_theory.specs.Nameless.{DTerm}
 use Rattle.slotted_model.specs.Applied.{Applied}
-use Rattle.slotted_rebuilding.proofs.CountedRebuilds.{counts-same}
+use Rattle.slotted_rebuilding.proofs.RebuildCounts.{counts-same}
 use Rattle.slotted_analyses.specs.declared.edit.Edit.{Edit}
 use Rattle.slotted_analyses.specs.Meaning.{IsMergeOf, Meaning}
 use Rattle.slotted_data.specs.Part.{Part, part_code}

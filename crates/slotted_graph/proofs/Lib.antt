@@ -21,7 +21,7 @@ pub use Rattle.slotted_operations.proofs.CallerLemmas
 pub use Rattle.slotted_operations.proofs.YesesStay
 pub use Rattle.slotted_operations.proofs.Ids.FilledNames
 pub use Rattle.slotted_operations.proofs.Graphs.Images
-pub use Rattle.slotted_operations.proofs.Terms.Layers
+pub use Rattle.slotted_operations.proofs.TermsOverIds.Layers
 pub use Rattle.slotted_operations.proofs.Additions.Tables
 pub use Rattle.slotted_operations.proofs.Ids.ValidIds
 pub use Rattle.slotted_least_terms.proofs.EntryForms

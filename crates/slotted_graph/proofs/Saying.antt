@@ -21,13 +21,14 @@ use Rattle.slotted_model.specs.ProofList.{Equation, equation_of, term_pair}
 use Rattle.slotted_model.proofs.Represented.FillingEquations.{filled-equation}
 use Rattle.slotted_proofs.specs.Entries.{Proven, nothing_proven, proven_at}
 use Rattle.slotted_proofs.specs.Equations.{to_applied}
-use Rattle.slotted_rebuilding.proofs.CountedRebuilds.{counts-same, counts-then}
+use Rattle.slotted_rebuilding.proofs.RebuildCounts.{counts-same, counts-then}
 use Rattle.slotted_operations.proofs.CallerLemmas.{term_later}
 use Rattle.slotted_analyses.specs.Meaning.{IsMergeOf, Meaning, by_bare_nodes}
 use Rattle.slotted_analyses.specs.declared.edit.Edit.{Edit}
 use Rattle.slotted_analyses.specs.declared.edit.Edit.TheVariants.{Add, Equal, Equate}
 use Rattle.slotted_analyses.specs.Edits.{IsValidEdit}
 use Rattle.slotted_model_analyses.specs.Analysis.{Absorbs}
+use Rattle.slotted_model_analyses.proofs.Absorbing.{absorbs-through}
 use Rattle.slotted_data.specs.Part.{Part, part_code}
 use Rattle.slotted_graph.specs.Analysed.{CarriesData, LowersData, LowersPart}
 use Rattle.slotted_graph.specs.Extension.{Begins, ExtendsTo}
@@ -37,10 +38,6 @@ use Rattle.slotted_graph.specs.States.{IsGraph}
 use Rattle.slotted_operations.specs.ValidIds.{IsValidId}
 use Rattle.slotted_graph.proofs.Extending.{between-longer, extends-added, extends-then, extends-united}
 use Rattle.slotted_graph.specs.Edited.{AddsTerm, AssertsMore, HasBareEntry, IsDone, IsIdOf, IsSaid, MakesEdit, UnitesIds}
-
--- what absorbs data absorbs what this absorbs
-merges-through : {D : Type 0} (m : Meaning D) → IsMergeOf m → (z y x : D) → m.merge z y ≡ z → m.merge y x ≡ y → m.merge z x ≡ z
-merges-through m law z y x down lower = sym (ap (λ w. m.merge w x) down) ∙ (law.associative z y x ∙ (ap (m.merge z) lower ∙ down))
 
 -- data that was carried along only went down
 pub carried-lowers : {N D : Type 0} (codes : Coded N × Coded D) (meaning : N → Meaning D) (g h : Graph) → CarriesData codes meaning g h → LowersData codes meaning g h
@@ -64,7 +61,7 @@ lowers-then {N} {D} codes meaning law f g h extends first second p keeps =
           let z = b.falls i (extends.canonical.classes i within).0 y.0 y.1 in
           let m = meaning p.analysis in
           let down : Absorbs (by_bare_nodes m) z.0 y.0 = subst (λ (n : N). Absorbs (by_bare_nodes (meaning n)) z.0 y.0) a.analysis z.2 in
-          (z.0, z.1, merges-through m (law p.analysis) z.0 y.0 x down y.2);
+          (z.0, z.1, absorbs-through (by_bare_nodes m) (law p.analysis).associative z.0 y.0 x down y.2);
     }
 
 -- and data that stays has gone down

@@ -44,7 +44,7 @@ use slotted_writes::uniting;
 use std::alloc::Global;
 use std::marker::Model;
 
-mod adding;
+mod adding_quietly;
 mod analysed;
 mod building;
 mod canonical;

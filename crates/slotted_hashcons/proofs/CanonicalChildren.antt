@@ -1,8 +1,6 @@
 -- Canonical nodes are over ids that find.
-use Rattle.std.proofs.Common.{◌≡◌, ◌<◌, ℕ, length, ◌∙◌, sym, subst, arith, []}
-use Rattle.slotted_theory.specs.Nameless.{DTerm, stop}
-use Rattle.slotted_theory.proofs.Values.{node}
-use Rattle.slotted_languages.specs.NodeTerm.{nameless_node}
+use Rattle.std.proofs.Common.{◌≡◌, ◌<◌, ℕ, length, sym, subst, arith}
+use Rattle.slotted_theory.specs.Nameless.{DTerm}
 use Rattle.slotted_model.specs.Applied.{EachChild}
 use Rattle.slotted_model.specs.Classes.{Canonical, IsFull, canonical_node}
 use Rattle.slotted_model.specs.Find.{Linked}
@@ -11,17 +9,12 @@ use Rattle.slotted_model.specs.State.{State}
 use Rattle.slotted_model.proofs.Represented.Children.{EachChild-map}
 use Rattle.slotted_model.proofs.Finds.NormalIds.{full-is_valid}
 use Rattle.slotted_classes.specs.Finding.{IsFindable}
-use Rattle.slotted_classes.specs.Kept.{Kept, ClassEntry, node_at, nodes_of, entries_of, no_form, no_entry}
-use Rattle.slotted_classes.proofs.KeptLists.{any_default, at-mapped, length-nodes_of}
+use Rattle.slotted_classes.specs.Kept.{Kept, node_at, nodes_of, entries_of}
+use Rattle.slotted_classes.proofs.ClassNodes.{node-is}
+use Rattle.slotted_classes.proofs.KeptLists.{length-nodes_of}
 use Rattle.slotted_hashcons.specs.NormalNodes.{HasFindableChildren}
 
--- the canonical node of a class, without bound names
-pub node-is : (k : Kept) (i : ℕ) → i < length k.classes → nameless_node (node_at k i) ≡ canonical_node (nodes_of k) i
-node-is k i h =
-    sym (any_default (nodes_of k) i (node 0 [] stop) (nameless_node no_form) (omega (arith, h, length-nodes_of k))
-    ∙ at-mapped (λ (c : ClassEntry). nameless_node c.0) k.classes i (no_form, no_entry))
-
--- its children find
+-- the children of the canonical node of a class find
 pub canonical-findable : (k : Kept) → Canonical (nodes_of k) → Linked (nodes_of k) (entries_of k) → (i : ℕ) → i < length k.classes → HasFindableChildren k (node_at k i)
 canonical-findable k canonical linked i h =
     subst (λ (d : DTerm). EachChild (IsFindable k) d.args) (sym (node-is k i h))

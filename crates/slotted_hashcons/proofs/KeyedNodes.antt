@@ -29,7 +29,7 @@ use Rattle.slotted_classes.specs.Kept.{Kept, node_at, nodes_of, entries_of}
 use Rattle.slotted_classes.proofs.NamePairs.{In-firsts}
 use Rattle.slotted_hashcons.specs.FoundNodes.{FilesNode, HasNoMorePlaces, IsFoundNode, finds_of}
 use Rattle.slotted_hashcons.specs.NormalNodes.{HasFindableChildren}
-use Rattle.slotted_hashcons.proofs.CanonicalChildren.{node-is}
+use Rattle.slotted_classes.proofs.ClassNodes.{node-is}
 use Rattle.slotted_hashcons.proofs.FoundChildren.{child_ids-valid, found-nameless, found-places}
 use Rattle.slotted_hashcons.proofs.NumbersInShapes.{In-among, among-In, firsts-map}
 use Rattle.slotted_hashcons.proofs.ReplacedChildren.{first_form, first_names-fit}

@@ -14,7 +14,6 @@ pub mod NumbersInShapes
 pub mod ShapesOfNodes
 pub mod KeyedNodes
 pub mod CanonicalChildren
-pub mod OwnIds
 pub mod NumberPartners
 pub mod CoveredNodes
 pub mod StaleRows

@@ -5,7 +5,6 @@ ghost use Rattle.slotted_classes.specs.Finding.{HasFinds};
 ghost use Rattle.slotted_hashcons.specs.FoundNodes.{HasNormalNames, StandsIn, finds_of};
 
 use slotted_classes::Store;
-use slotted_classes::names::has_value;
 use slotted_languages::Language;
 use slotted_slots::{Slot, SlotMap};
 
@@ -16,7 +15,7 @@ fn has_slot<L: Language>(store: &Store<L>, class: usize, names: &SlotMap, slot: 
     ensures { IsTrue result ↔ StandsIn store.now class names.now slot }
 {
     match store.found_slot(class, slot) {
-        Some(own) => has_value(names, own),
+        Some(own) => names.has_value(own),
         None => true,
     }
 }

@@ -1,7 +1,7 @@
 //! The shapes that are filed, and the classes that they are filed for.
-ghost use Rattle.std.specs.Prelude.{◌≡◌, ◌<◌, ◌++◌, ◌∷◌, [], length, None, Some, set, option_map, slice_get};
+ghost use Rattle.std.specs.Prelude.{◌≡◌, ◌^◌, ◌<◌, ◌++◌, ◌∷◌, [], length, None, Some, set, option_map, slice_get};
 ghost use Rattle.std.specs.List.{count_by};
-ghost use Rattle.std.specs.Prelude.{is_some, swap_remove, IfSome, IfNone, IfOk, IfErr, OnOk, OnErr};
+ghost use Rattle.std.specs.Prelude.{is_some, swap_remove, IfSome, IfNone, IfOk, IfErr, IsOk, OnOk, OnErr};
 ghost use Rattle.slotted_slots.specs.Error.{IsOutOfMemory};
 ghost use Rattle.slotted_hashcons.specs.Filed.{FiledRow, filed_of, rows_of, HasKey, IsNewKey, HasKeysOnce};
 
@@ -126,6 +126,7 @@ impl<L: Language> KeyIndex<L> {
 /// Returns the number of a class or a place as it is kept. `OutOfMemory` if the number is too large for that.
 pub(crate) fn as_small(number: usize) -> Result<u32, Error>
     ensures ok { IfOk result (λ n. n ≡ number) }
+    ensures small { number < 2 ^ 32 → IsOk result }
     ensures err { IfErr result IsOutOfMemory }
 {
     match u32::try_from(number) {

@@ -1,30 +1,17 @@
 //! Canonical e-nodes: e-nodes over what `find` maps their children to.
-ghost use Rattle.std.specs.Prelude.{◌≡◌, ◌≤◌, ◌↔◌, length, IfOk, IfErr, IsTrue};
+ghost use Rattle.std.specs.Prelude.{◌≡◌, ◌≤◌, length, IfOk, IfErr};
 ghost use Rattle.slotted_slots.specs.Error.{IsOutOfMemory};
 ghost use Rattle.slotted_languages.specs.NodeTerm.{nameless_node};
 ghost use Rattle.slotted_model.specs.Applied.{EachChild};
-ghost use Rattle.slotted_model.specs.Find.{find};
 ghost use Rattle.slotted_model.specs.Normal.{IsFound, normal};
-ghost use Rattle.slotted_proofs.specs.Equations.{to_applied};
-ghost use Rattle.slotted_classes.specs.Finding.{HasFinds, IsFindable};
+ghost use Rattle.slotted_classes.specs.Finding.{HasFinds};
 ghost use Rattle.slotted_classes.specs.Kept.{entries_of};
 ghost use Rattle.slotted_hashcons.specs.NormalNodes.{HasFindableChildren, HasNoOtherNames};
 
 use slotted_classes::Store;
 use slotted_languages::Language;
-use slotted_slots::{AppliedId, Error};
+use slotted_slots::Error;
 use std::alloc::Global;
-
-/// Returns whether an id is canonical: its class is live, and has as many slots left as the id has names. Takes no
-/// memory.
-pub fn is_found<L: Language>(store: &Store<L>, a: &AppliedId) -> bool
-    requires good { HasFinds store.now }
-    requires findable { IsFindable store.now (to_applied a.now) }
-    ensures { IsTrue result ↔ (find (entries_of store.now) (to_applied a.now) ≡ to_applied a.now) }
-{
-    let entry = store.entry(a.id.0);
-    entry.id.0 == a.id.0 && entry.m.len() == a.m.len()
-}
 
 /// Returns the canonical e-node of an e-node: each child is what `find` maps it to.
 ///
@@ -42,7 +29,7 @@ pub fn normal_of<L: Language>(store: &Store<L>, alloc: Global, node: &L) -> Resu
     let mut normal = node.copy(alloc)?;
     for k in 0..node.applied_id_count() {
         let child = node.applied_id(k);
-        if !is_found(store, child) {
+        if !store.is_canonical(child) {
             let found = store.found_id(alloc, child)?;
             normal.set_applied_id(k, found);
         }

@@ -3,32 +3,17 @@ ghost use Rattle.std.specs.Prelude.{◌≡◌, ◌<◌, length, IfOk, IfErr, IsE
 ghost use Rattle.slotted_theory.specs.FiniteMaps.{IsInjectiveMap};
 ghost use Rattle.slotted_slots.specs.Error.{IsOutOfMemory, IsShortage};
 ghost use Rattle.slotted_model.specs.Applied.{keys};
-ghost use Rattle.slotted_model.specs.Classes.{Canonical, canonical_slots};
-ghost use Rattle.slotted_model.specs.Correspondence.{IsPartialInjection, identity};
-ghost use Rattle.slotted_proofs.specs.Equations.{HaveManyNames, IsWritten, partnered_statement, to_applied};
+ghost use Rattle.slotted_model.specs.Classes.{Canonical};
+ghost use Rattle.slotted_model.specs.Correspondence.{IsPartialInjection};
+ghost use Rattle.slotted_proofs.specs.Equations.{HaveManyNames, IsWritten, partnered_statement};
 ghost use Rattle.slotted_classes.specs.Kept.{nodes_of, rows_from};
 ghost use Rattle.slotted_hashcons.specs.Sides.{AreTwinSides, HaveManySlots, HaveOneShape, number_partners};
 
 use slotted_classes::Store;
-use slotted_classes::names::map_between;
 use slotted_languages::Language;
-use slotted_proofs::Equation;
-use slotted_slots::{AppliedId, Error, Id, SlotMap};
+use slotted_proofs::{Equation, shared_names};
+use slotted_slots::{AppliedId, Error, SlotMap};
 use std::alloc::Global;
-
-// Returns the class with each of its canonical slots as its name.
-fn own_id<L: Language>(store: &Store<L>, alloc: Global, class: usize) -> Result<AppliedId, Error>
-    requires rows { store.now.rows ≡ rows_from 0 store.now.classes }
-    requires within { class < length store.now.classes }
-    ensures ok { IfOk result (λ a. to_applied a ≡ (class, identity (canonical_slots (nodes_of store.now) class))) }
-    ensures err { IfErr result IsOutOfMemory }
-{
-    let slots = store.names_of(class);
-    Ok(AppliedId {
-        id: Id(class),
-        m: map_between(alloc, slots, slots)?,
-    })
-}
 
 // Returns the map from slots of the right id that have a number to the slots of the left class with that number.
 fn partners(
@@ -41,8 +26,7 @@ fn partners(
     ensures ok { IfOk result (λ m. m ≡ number_partners names.now others.now right.now) }
     ensures err { IfErr result IsOutOfMemory }
 {
-    let numbers = others.inverse(alloc)?;
-    let numbered = right.compose_partial(alloc, &numbers)?;
+    let numbered = shared_names(alloc, right, others)?;
     numbered.compose_partial(alloc, names)
 }
 
@@ -87,8 +71,8 @@ pub fn sides<L: Language>(
     ensures full { IsErrOf result Error.OutOfSlots → HaveManySlots store.now left right }
     ensures err { IfErr result IsShortage }
 {
-    let l = own_id(store, alloc, left)?;
-    let r = own_id(store, alloc, right)?;
+    let l = store.own_id(alloc, left)?;
+    let r = store.own_id(alloc, right)?;
     let equation = numbered_equation(alloc, &l, names, &r, others)?;
     Ok(equation)
 }

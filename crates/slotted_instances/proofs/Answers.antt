@@ -2,14 +2,13 @@
 use Rattle.std.proofs.Common.{◌≡◌, ◌∙◌, ap, refl, sym, subst, inl, inr, ℕ, zero, suc, List, [], ◌∷◌, ◌++◌, length, take, drop, arith, slice_index, length-append, length-take, length-drop}
 use Rattle.std.specs.Prelude.{IsTrue, Contains, Bool}
 use Rattle.std.proofs.lemmas.List.{take_at, drop_at}
-use Rattle.slotted_slots.specs.Table.{Table, is_known}
+use Rattle.slotted_slots.specs.Table.{Table, is_known, AllKnown}
 use Rattle.slotted_slots.specs.Maps.{keys, values}
 use Rattle.slotted_theory.specs.Nameless.{DTerm, scope, extend, nameless_args}
 use Rattle.slotted_theory.proofs.Values.{child_before, node}
 use Rattle.slotted_nodes.specs.Form.{Tree, leaf, own, child, bind, scopes, children}
 use Rattle.slotted_languages.specs.NodeTerm.{node_args, own_names}
 use Rattle.slotted_languages.proofs.NodeTerms.{own_fits, child_rest_fits, bind_inner_fits, bind_rest_fits}
-use Rattle.slotted_terms.specs.Valid.{AllKnown}
 use Rattle.slotted_model.specs.Applied.{Applied, as_term, renamed_id}
 use Rattle.slotted_model.specs.Classes.{term_of}
 use Rattle.slotted_model.specs.Growth.{Extends}

@@ -3,13 +3,12 @@ use Rattle.std.proofs.Common.{◌≡◌, ◌∙◌, ap, refl, sym, subst, inl, i
 use Rattle.std.specs.Prelude.{IsTrue, Contains, Some, is_some, slice_index_or}
 use Rattle.std.proofs.lemmas.Bool.{cases_eq}
 use Rattle.std.proofs.lemmas.List.Elements.{Contains-append_left, Contains-append_right, Contains-append_cases}
-use Rattle.slotted_slots.specs.Table.{is_known}
+use Rattle.slotted_slots.specs.Table.{is_known, AllKnown}
 use Rattle.slotted_theory.specs.Nameless.{DTerm}
 use Rattle.slotted_theory.proofs.Values.{node}
 use Rattle.slotted_nodes.specs.Form.{Form, children}
 use Rattle.slotted_languages.specs.NodeTerm.{nameless_node}
 use Rattle.slotted_languages.specs.Shape.{Fits}
-use Rattle.slotted_terms.specs.Valid.{AllKnown}
 use Rattle.slotted_model.specs.Applied.{Applied}
 use Rattle.slotted_model.specs.Classes.{term_of, layer_of}
 use Rattle.slotted_model_rules.specs.Conditions.{Values}

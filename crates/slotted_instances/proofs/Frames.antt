@@ -5,7 +5,7 @@ use Rattle.slotted_slots.specs.declared.types.AppliedId.{AppliedId}
 use Rattle.slotted_slots.specs.Maps.{keys, values}
 use Rattle.slotted_nodes.specs.Form.{Form, child_id, child_keys, child_names, children}
 use Rattle.slotted_languages.specs.Shape.{Fits}
-use Rattle.slotted_terms.specs.Valid.{AllKnown}
+use Rattle.slotted_slots.specs.Table.{AllKnown}
 use Rattle.slotted_model.specs.Applied.{Applied}
 use Rattle.slotted_proofs.specs.Equations.{to_applied}
 use Rattle.slotted_classes.specs.ChildIds.{child_ids}

@@ -2,7 +2,7 @@
 use Rattle.std.proofs.Common.{◌≡◌, ◌∙◌, ap, refl, sym, subst, ℕ, suc, ◌<◌, List, [], ◌∷◌, length, arith}
 use Rattle.std.specs.Prelude.{All, IsSome, IsTrue, None, Option, Some, is_some, option_and_then, slice_index_or}
 use Rattle.std.proofs.lemmas.Bool.{false≢true}
-use Rattle.slotted_slots.specs.Table.{is_known}
+use Rattle.slotted_slots.specs.Table.{is_known, AllKnown}
 use Rattle.slotted_slots.specs.Maps.{values}
 use Rattle.slotted_theory.specs.Term.{Term}
 use Rattle.slotted_theory.specs.Nameless.{DTerm, nameless}
@@ -12,7 +12,7 @@ use Rattle.slotted_languages.specs.Filled as form
 use Rattle.slotted_languages.specs.Filled.{filled}
 use Rattle.slotted_languages.specs.NodeTerm.{nameless_node}
 use Rattle.slotted_languages.specs.Shape.{Fits}
-use Rattle.slotted_terms.specs.Valid.{AllKnown, HasKnownNames}
+use Rattle.slotted_terms.specs.Valid.{HasKnownNames}
 use Rattle.slotted_model.specs.Applied.{Applied, EachChild}
 use Rattle.slotted_model.specs.LookUp.{look_up}
 use Rattle.slotted_model.specs.State.{look_up_node}
@@ -28,7 +28,7 @@ use Rattle.slotted_hashcons.specs.WellFiled.{state_in}
 use Rattle.slotted_lookup.specs.Filling.{node_over}
 use Rattle.slotted_lookup.proofs.NodesOver.{child_ids-over, beside-over, length-over}
 use Rattle.slotted_operations.proofs.Additions.TermNodes.{places-known}
-use Rattle.slotted_operations.proofs.Terms.Layers.{each_at}
+use Rattle.slotted_operations.proofs.TermsOverIds.Layers.{each_at}
 use Rattle.slotted_operations.proofs.LookUps.States.{looked_up-is, tree-is}
 use Rattle.slotted_operations.proofs.LookUps.Subterms.{Looked, children_found, looked-args}
 use Rattle.slotted_operations.proofs.Graphs.AtRest.{at-rest}

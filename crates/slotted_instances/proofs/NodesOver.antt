@@ -4,20 +4,19 @@ use Rattle.std.proofs.Common.{◌≡◌, ℕ, zero, suc, ◌<◌, List, [], ◌�
 use Rattle.std.specs.Prelude.{slice_index_or, slice_set, IsTrue, All}
 use Rattle.std.specs.List.{zip}
 use Rattle.std.proofs.lemmas.List.{take_at, drop_at}
-use Rattle.slotted_slots.specs.Table.{Table, is_known}
+use Rattle.slotted_slots.specs.Table.{Table, is_known, AllKnown}
 use Rattle.slotted_slots.specs.Maps.{keys, values}
 use Rattle.slotted_nodes.specs.Form.{Form, Tree, leaf, own, child, bind, scopes, children, with_child}
 use Rattle.slotted_languages.specs.Shape.{Fits}
 use Rattle.slotted_languages.proofs.NodeTerms.{own_fits, child_rest_fits, bind_inner_fits, bind_rest_fits}
-use Rattle.slotted_terms.specs.Valid.{AllKnown}
 use Rattle.slotted_model.specs.Applied.{Applied}
 use Rattle.slotted_classes.specs.ChildIds.{child_ids}
 use Rattle.slotted_classes.proofs.ChildIds.{Each, Each-from_All, zip-keys_values}
 use Rattle.slotted_classes.proofs.NameMaps.{length-keys, length-values}
 use Rattle.slotted_lookup.specs.Filling.{tree_over, names_over, node_over}
 use Rattle.slotted_lookup.proofs.NodesOver.{names_fit, over_fits}
-use Rattle.slotted_operations.proofs.Terms.Children.{plugs}
-use Rattle.slotted_operations.proofs.Terms.Layers.{each_at}
+use Rattle.slotted_operations.proofs.TermsOverIds.Children.{plugs}
+use Rattle.slotted_operations.proofs.TermsOverIds.Layers.{each_at}
 use Rattle.slotted_model_rules.specs.Matcher.{an_id, a_binder}
 use Rattle.slotted_model_rules.specs.ReplacedIds.{HasOtherIds}
 use Rattle.slotted_rule_patterns.specs.NodeArguments.{args_of, node_arguments}

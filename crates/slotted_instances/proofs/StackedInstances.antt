@@ -6,10 +6,9 @@ use Rattle.std.proofs.lemmas.List.Elements.{All-drop}
 use Rattle.std.proofs.Math.Seq.{get_or-append_seam, take-append_seam}
 use Rattle.slotted_slots.specs.Maps.{keys, values}
 use Rattle.slotted_slots.specs.declared.types.AppliedId.{AppliedId}
-use Rattle.slotted_slots.specs.Table.{Table}
+use Rattle.slotted_slots.specs.Table.{Table, AllKnown}
 use Rattle.slotted_nodes.specs.Form.{Form, children, with_applied, with_child}
 use Rattle.slotted_languages.specs.Shape.{Fits}
-use Rattle.slotted_terms.specs.Valid.{AllKnown}
 use Rattle.slotted_patterns.specs.Known.{AreKnown, HaveKnownNames}
 use Rattle.slotted_patterns.specs.Subpatterns.{before_parts, parts, patterns_in as row_list, subpatterns, EndsInParts}
 use Rattle.slotted_patterns.specs.Tree.{PatternTree, enode, pvar, substitution, PatternRow, no_more, one_more, row_of}

@@ -6,7 +6,7 @@ use Rattle.std.proofs.lemmas.List.{get_or_append_left, take_more, take_all}
 use Rattle.std.proofs.lemmas.List.Elements.{All-contains}
 use Rattle.std.proofs.Math.Seq.{get_or-append_seam}
 use Rattle.slotted_slots.specs.declared.types.AppliedId.{AppliedId}
-use Rattle.slotted_slots.specs.Table.{is_known}
+use Rattle.slotted_slots.specs.Table.{is_known, AllKnown}
 use Rattle.slotted_slots.specs.Maps.{keys, values}
 use Rattle.slotted_nodes.specs.Form.{Form, children, with_applied, with_child}
 use Rattle.slotted_languages.specs.Children.{IsBound}
@@ -14,7 +14,6 @@ use Rattle.slotted_languages.specs.NodeTerm.{nameless_node}
 use Rattle.slotted_languages.specs.Shape.{Fits}
 use Rattle.slotted_theory.specs.Nameless.{DArgs, DTerm}
 use Rattle.slotted_theory.proofs.Values.{node}
-use Rattle.slotted_terms.specs.Valid.{AllKnown}
 use Rattle.slotted_model.specs.Applied.{Applied}
 use Rattle.slotted_model.specs.Classes.{IsFull, term_of, layer_of}
 use Rattle.slotted_model.specs.Filling.{FillsArgs}

@@ -6,7 +6,7 @@
 --     InstantiatesKnown g h s q a    the same by a method that a graph can be made with
 use Rattle.std.specs.Prelude.{◌≡◌, ℕ, List, All, Some, true}
 use Rattle.slotted_theory.specs.Nameless.{DTerm}
-use Rattle.slotted_terms.specs.Valid.{AllKnown}
+use Rattle.slotted_slots.specs.Table.{AllKnown}
 use Rattle.slotted_patterns.specs.Tree.{PatternTree}
 use Rattle.slotted_model.specs.Applied.{Applied}
 use Rattle.slotted_graph.specs.declared.method.SubstMethod.{SubstMethod}

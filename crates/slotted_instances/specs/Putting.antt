@@ -2,9 +2,8 @@
 --     FillsUnknown t nodes a b     b is a with its missing names: none of them was known to the table t
 --     PutsIn m g h b x t a         from g to h the method answers a for b[x := t], where the three get the names that they lack
 use Rattle.std.specs.Prelude.{ℕ, List}
-use Rattle.slotted_slots.specs.Table.{Table}
+use Rattle.slotted_slots.specs.Table.{Table, AllKnown}
 use Rattle.slotted_theory.specs.Nameless.{DTerm}
-use Rattle.slotted_terms.specs.Valid.{AllKnown}
 use Rattle.slotted_model.specs.Applied.{Applied}
 use Rattle.slotted_model.specs.Filling.{IsFilling}
 use Rattle.slotted_graph.specs.Graph.{Graph}

@@ -1,7 +1,7 @@
 //! Adding one more e-node to a graph.
 ghost use Rattle.std.specs.Prelude.{All, ◌⊎◌, IsTrue, IfOk, IfErr, OnOk, OnErr};
 ghost use Rattle.slotted_slots.specs.Error.{IsShortage};
-ghost use Rattle.slotted_terms.specs.Valid.{AllKnown};
+ghost use Rattle.slotted_slots.specs.Table.{AllKnown};
 ghost use Rattle.slotted_proofs.specs.Equations.{to_applied};
 ghost use Rattle.slotted_graph.specs.Adding.{AddsSyn};
 ghost use Rattle.slotted_graph.specs.Graph.{IsFullId};

@@ -15,7 +15,6 @@ ghost use Rattle.slotted_instances.specs.Substituting.{HasNameBeside, Replaces};
 
 use crate::adding::add_node;
 use slotted_analyses::Analysis;
-use slotted_classes::names::has_value;
 use slotted_graph::EGraph;
 use slotted_languages::Language;
 use slotted_slots::{AppliedId, Error, SlotMap};
@@ -45,7 +44,7 @@ fn has_name_beside(map: &SlotMap, other: &SlotMap) -> bool
     ensures { IsTrue result → HasNameBeside map.now other.now }
 {
     for i in 0..map.len() {
-        if !has_value(other, map.value_at(i)) {
+        if !other.has_value(map.value_at(i)) {
             return true;
         }
     }

@@ -10,3 +10,4 @@ pub mod Occurrences
 pub mod Fresh
 pub mod NewNames
 pub mod Sizes
+pub mod Beside

@@ -25,18 +25,6 @@ fn has_name<L: Language>(node: &L, name: Slot) -> bool
     false
 }
 
-// Returns whether the name is a value of the map.
-fn has_value(map: &SlotMap, name: Slot) -> bool
-    ensures { result ≡ is_among name (values map.now) }
-{
-    for i in 0..map.len() {
-        if map.value_at(i) == name {
-            return true;
-        }
-    }
-    false
-}
-
 // Returns a fresh slot that is no name of the node, no value of the map, and not to be avoided.
 pub(crate) fn fresh_apart<L: Language>(
     node: &L,
@@ -60,7 +48,7 @@ pub(crate) fn fresh_apart<L: Language>(
 {
     loop {
         let slot = table.fresh()?;
-        if !avoid.contains(&slot) && !has_value(names, slot) && !has_name(node, slot) {
+        if !avoid.contains(&slot) && !names.has_value(slot) && !has_name(node, slot) {
             return Ok(slot);
         }
     }

@@ -25,8 +25,8 @@ use Rattle.slotted_model.specs.Correspondence.{composite}
 use Rattle.slotted_model.proofs.Data.Members.{In}
 use Rattle.slotted_model.proofs.Data.Theory.{moved-id}
 use Rattle.slotted_classes.proofs.NameMaps.{at_In}
-use Rattle.slotted_lookup.proofs.Reported.{In-among}
-use Rattle.slotted_operations.proofs.Terms.Layers.{length-parts}
+use Rattle.slotted_lookup.proofs.ReportLists.{In-among}
+use Rattle.slotted_operations.proofs.TermsOverIds.Layers.{length-parts}
 use Rattle.slotted_reports.specs.Nodes.{HasFreshNames}
 use Rattle.slotted_reports.proofs.FiledNodes.{among-in, name-of}
 use Rattle.slotted_reports.proofs.FreshNodes.{free-renamed, unknown-before}

@@ -42,7 +42,7 @@ use Rattle.slotted_hashcons.proofs.KeyedNodes.{own-numbers}
 use Rattle.slotted_hashcons.proofs.StaleRows.{current-found}
 use Rattle.slotted_lookup.specs.Enodes.{IsMet}
 use Rattle.slotted_lookup.specs.LookUp.{looked_up}
-use Rattle.slotted_lookup.proofs.LookedUpRows.{some-looked_up}
+use Rattle.slotted_lookup.proofs.LookUpRows.{some-looked_up}
 use Rattle.slotted_lookup.proofs.RowNames.{find-beside}
 
 -- first one map, then another, where this is known at each value of the first

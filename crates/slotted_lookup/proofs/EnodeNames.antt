@@ -39,7 +39,7 @@ use Rattle.slotted_hashcons.specs.WellFiled.{IsKeyed, IsWellFiled}
 use Rattle.slotted_hashcons.proofs.KeyedNodes.{own-numbers}
 use Rattle.slotted_lookup.specs.Enodes.{AllKnownTo, IsLookedUpAs, IsMet, names_beside_of}
 use Rattle.slotted_lookup.proofs.AppliedNodes.{filed-in_nodes, filed-key, filed-node, named-looked_up, same-keys, shape-named}
-use Rattle.slotted_lookup.proofs.Reported.{In-among}
+use Rattle.slotted_lookup.proofs.ReportLists.{In-among}
 
 module _ (k : Kept) (r : Rows) (well : IsWellFiled k r) (o : ℕ) (f : Form) (m : List (ℕ × ℕ)) (at : filed_of r.filed o ≡ Some (f, m)) (quiet : ¬ Contains r.waiting o)
     (a : Applied) (valid : IsFindable k a) (meets : IsMet k o a) where

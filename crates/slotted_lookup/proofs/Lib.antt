@@ -1,13 +1,13 @@
 -- Lemmas of looking up and filling.
-pub mod FoundIds
-pub mod FoundMaps
-pub mod FoundAsTheyAre
+pub mod Finds
+pub mod MapLoops
+pub mod NormalNodes
 pub mod RowNames
-pub mod LookedUpRows
-pub mod Reported
+pub mod LookUpRows
+pub mod ReportLists
 pub mod AppliedNodes
 pub mod EnodeNames
 pub mod NodesOver
-pub mod FilledIds
-pub mod FilledChildren
-pub mod FilledSizes
+pub mod IdFillings
+pub mod ChildFillings
+pub mod FillingSizes

@@ -18,7 +18,8 @@ use Rattle.slotted_languages.proofs.NodeTerms.{own_fits, child_keys_fit, child_r
 use Rattle.slotted_model.specs.Applied.{Applied}
 use Rattle.slotted_classes.specs.ChildIds.{ids_in, child_ids}
 use Rattle.slotted_classes.proofs.ChildIds.{length-ids, zip-keys_values}
-use Rattle.slotted_lookup.specs.Filling.{tree_over, names_over, node_over, IsBeside}
+use Rattle.slotted_lookup.specs.Filling.{tree_over, names_over, node_over}
+use Rattle.slotted_languages.specs.Beside.{IsBeside}
 
 length-map_values : (m : List (ℕ × ℕ)) → length (values m) ≡ length m
 length-map_values m = length-map {B = ℕ} m (λ p. p.1)

@@ -1,5 +1,4 @@
 -- What filling answers: the id with a fresh slot for each canonical slot of its class that it has no name for, and the node with each child filled.
---     AllKnown t xs              the table knows each of the slots
 --     MakesAtMost n t u          from t to u the table makes at most n fresh slots
 --     RunsOut n t u              n more were not to be had
 --     with_fresh n t             the table after n more fresh slots
@@ -15,14 +14,11 @@
 --     MakesFull k t f g          with known names in f, g has full children
 --     KeepsKnown t u xs ys       where t knows xs, u knows ys
 --     HasOneNormalForm k f g     g has the normal form of f
---     IsBeside f g               g is f but for the ids of its children
-use Rattle.std.specs.Prelude.{◌≡◌, ℕ, ◌+◌, ◌<◌, ◌≤◌, List, [], ◌∷◌, ◌++◌, length, take, drop, slice_index, Option, Some, None, unwrap_or, All, IsTrue}
+use Rattle.std.specs.Prelude.{◌≡◌, ℕ, ◌+◌, ◌<◌, ◌≤◌, List, [], ◌∷◌, ◌++◌, length, take, drop, slice_index, Option, Some, None, unwrap_or, All}
 use Rattle.std.specs.List.{zip}
-use Rattle.slotted_theory.specs.Term.{Term}
 use Rattle.slotted_slots.specs.Maps.{value_of, keys, values}
-use Rattle.slotted_slots.specs.Table.{Table, is_known, fresh_slot, slot_limit}
+use Rattle.slotted_slots.specs.Table.{Table, AllKnown, fresh_slot, slot_limit}
 use Rattle.slotted_nodes.specs.Form.{Form, Tree, leaf, own, child, bind, scopes, children}
-use Rattle.slotted_languages.specs.Filled.{filled}
 use Rattle.slotted_languages.specs.NodeTerm.{nameless_node}
 use Rattle.slotted_model.specs.Applied.{Applied}
 use Rattle.slotted_model.specs.Classes.{canonical_slots, IsFull}
@@ -30,10 +26,6 @@ use Rattle.slotted_model.specs.Filling.{IsFilling, FillsNode}
 use Rattle.slotted_model.specs.Normal.{normal}
 use Rattle.slotted_classes.specs.ChildIds.{child_ids}
 use Rattle.slotted_classes.specs.Kept.{Kept, nodes_of, entries_of}
-
--- the table knows each of the slots
-abbrev pub AllKnown : Table → List ℕ → Type 0
-AllKnown t xs = All (λ s. IsTrue (is_known t s)) xs
 
 -- the table keeps its names, and makes at most n fresh slots
 pub record MakesAtMost (n : ℕ) (old new : Table) : Type 0 where
@@ -141,10 +133,3 @@ MakesFull k t f g = AllKnown t f.names → HasFullChildren k g
 -- g has the normal form of f
 abbrev pub HasOneNormalForm : Kept → Form → Form → Type 0
 HasOneNormalForm k f g = normal (entries_of k) (nameless_node g) ≡ normal (entries_of k) (nameless_node f)
-
--- operator, payloads, and what stands beside the children are the same
-pub record IsBeside (f g : Form) : Type 0 where
-  pub operator : g.operator ≡ f.operator
-  pub payloads : g.payloads ≡ f.payloads
-  pub count : length (children g.tree) ≡ length (children f.tree)
-  pub outline : (us : List Term) → length us ≡ length (children f.tree) → filled g.tree g.names us ≡ filled f.tree f.names us

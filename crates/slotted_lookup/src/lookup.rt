@@ -15,7 +15,7 @@ use crate::finding::found_with;
 use slotted_classes::Store;
 use slotted_classes::names::map_between;
 use slotted_hashcons::Hashcons;
-use slotted_hashcons::normal::{is_found, normal_of};
+use slotted_hashcons::normal::normal_of;
 use slotted_languages::Language;
 use slotted_slots::{AppliedId, Error, SlotMap};
 use std::alloc::Global;
@@ -52,7 +52,7 @@ fn is_normal<L: Language>(store: &Store<L>, node: &L) -> bool
         → normal (entries_of store.now) (nameless_node (L.form node.now)) ≡ nameless_node (L.form node.now) }
 {
     for k in 0..node.applied_id_count() {
-        if !is_found(store, node.applied_id(k)) {
+        if !store.is_canonical(node.applied_id(k)) {
             return false;
         }
     }

@@ -14,7 +14,7 @@ use Rattle.slotted_hashcons.specs.Filed.{Filing, filed_of}
 use Rattle.slotted_hashcons.specs.FiledRows.{IsFiled, Rows}
 use Rattle.slotted_hashcons.proofs.Places.{at-append_left}
 use Rattle.slotted_lookup.specs.Reports.{class_sources, is_source}
-use Rattle.slotted_lookup.proofs.Reported.{next-fails, next-passes}
+use Rattle.slotted_lookup.proofs.ReportLists.{next-fails, next-passes}
 use Rattle.slotted_match_machine.specs.declared.index.ClassRows.{ClassRows}
 use Rattle.slotted_match_machine.specs.declared.index.IndexRow.{IndexRow}
 use Rattle.slotted_match_machine.specs.Index.{OneByOne}

@@ -2,7 +2,7 @@
 ghost use Rattle.std.specs.Prelude.{◌≡◌, ◌<◌, ◌++◌, ℕ, List, [], length, map, Contains, string_bytes, slice_index_or};
 ghost use Rattle.std.specs.Prelude.{IfErr, IfOk, IsErrOf, IsTrue, OnOk};
 ghost use Rattle.slotted_slots.specs.Error.{IsOutOfMemory, IsShortage};
-ghost use Rattle.slotted_slots.specs.Table.{KnowsMore, is_known};
+ghost use Rattle.slotted_slots.specs.Table.{KnowsMore, is_known, AllKnown};
 ghost use Rattle.slotted_model.specs.Applied.{values};
 ghost use Rattle.slotted_match_machine.specs.Machine.{no_occurrence};
 ghost use Rattle.slotted_match_machine.specs.Readings.{IsWholeId, read_id};
@@ -10,7 +10,7 @@ ghost use Rattle.slotted_match_machine.specs.Answers.{answer_of, answers_in, occ
 ghost use Rattle.slotted_proofs.specs.Equations.{to_applied};
 ghost use Rattle.slotted_classes.specs.Finding.{HasFinds};
 ghost use Rattle.slotted_classes.specs.StateOf.{state_of};
-ghost use Rattle.slotted_lookup.specs.Filling.{AllKnown, MakesAtMost, RunsOut};
+ghost use Rattle.slotted_lookup.specs.Filling.{MakesAtMost, RunsOut};
 ghost use Rattle.slotted_matching.specs.Naming.{Covers, numbers_of, slot_in};
 ghost use Rattle.slotted_matching.specs.Answered.{AddsIds, AreWholeAnswers, HasDifferentPairs, HasWholeIds, InTurn, IsNamedAnswer};
 ghost use Rattle.slotted_matching.specs.Answered.{NumbersByName, PairSlotsIn, PairSlotsOf, StandOnce, ids_at, number_count};

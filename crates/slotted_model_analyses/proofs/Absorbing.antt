@@ -3,13 +3,16 @@ use Rattle.std.proofs.Common.{◌≡◌, ◌<◌, ◌≤◌, sym, ◌∙◌, ap,
 use Rattle.std.specs.Prelude.{◌⊎◌}
 use Rattle.slotted_model_analyses.specs.Analysis.{Analysis, IsMerge, Absorbs}
 
+-- what absorbs data absorbs what this absorbs, if the merge is associative
+pub absorbs-through : {D : Type 0} (a : Analysis D) → ((x y z : D) → a.merge (a.merge x y) z ≡ a.merge x (a.merge y z)) → (x y z : D) → Absorbs a x y → Absorbs a y z → Absorbs a x z
+absorbs-through a associative x y z p q = ap (λ w. a.merge w z) (sym p) ∙ (associative x y z ∙ (ap (a.merge x) q ∙ p))
+
 module _ {D : Type 0} (a : Analysis D) (law : IsMerge D a) where
   pub absorbs-same : (x : D) → Absorbs a x x
   absorbs-same x = law.idempotent x
 
   pub absorbs-then : (x y z : D) → Absorbs a x y → Absorbs a y z → Absorbs a x z
-  absorbs-then x y z p q =
-      ap (λ w. a.merge w z) (sym p) ∙ (law.associative x y z ∙ (ap (a.merge x) q ∙ p))
+  absorbs-then = absorbs-through a law.associative
 
   pub absorbs-both : (x y : D) → Absorbs a x y → Absorbs a y x → x ≡ y
   absorbs-both x y p q = sym p ∙ (law.commutative x y ∙ q)

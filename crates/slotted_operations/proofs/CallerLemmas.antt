@@ -25,7 +25,7 @@ use Rattle.slotted_model.proofs.Represented.Full.{full-ascending}
 use Rattle.slotted_model.proofs.Finds.NormalIds.{keys-identity}
 use Rattle.slotted_proofs.specs.Entries.{asserted_entry}
 use Rattle.slotted_proofs.specs.Equations.{to_applied}
-use Rattle.slotted_lookup.proofs.FilledIds.{full-lacks_none}
+use Rattle.slotted_lookup.proofs.IdFillings.{full-lacks_none}
 use Rattle.slotted_operations.specs.Graph.{Graph, IsFullId, OnlyReads, OnlyTakesSlots, RecordsUnion}
 use Rattle.slotted_operations.specs.Affected.{IsAffected, IsYesIfEqual, by_affected_child, by_open_symmetry}
 use Rattle.slotted_operations.specs.ValidIds.{IsValidId, Fills, HaveValidSides, slots_left}

@@ -1,6 +1,6 @@
 pub mod Graphs
 pub mod Ids
-pub mod Terms
+pub mod TermsOverIds
 pub mod LookUps
 pub mod Unions
 pub mod Additions

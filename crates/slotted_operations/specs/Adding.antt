@@ -9,13 +9,12 @@
 --     AddsSyn                the class of a node is looked up by canonical nodes, or made
 --     IsEqualToNode g a f    by what was asserted the id is equal to the node, whatever names are filled in
 use Rattle.std.specs.Prelude.{◌≡◌, ◌⊎◌, ℕ, ◌+◌, ◌*◌, ◌^◌, ◌≤◌, List, [], ◌∷◌, length, All, IsSome, None, Some}
-use Rattle.slotted_slots.specs.Table.{Table, slot_limit}
+use Rattle.slotted_slots.specs.Table.{Table, slot_limit, AllKnown}
 use Rattle.slotted_theory.specs.Derives.{Equal}
 use Rattle.slotted_theory.specs.Nameless.{DTerm}
 use Rattle.slotted_theory.specs.Term.{Args, Term, done, name, child, bind, term_size}
 use Rattle.slotted_nodes.specs.Form.{Form}
 use Rattle.slotted_languages.specs.NodeTerm.{nameless_node}
-use Rattle.slotted_terms.specs.Valid.{AllKnown}
 use Rattle.slotted_model.specs.Applied.{Applied}
 use Rattle.slotted_model.specs.Classes.{canonical_slots, IsFull, term_of, layer_of}
 use Rattle.slotted_model.specs.Filling.{FillsNode}

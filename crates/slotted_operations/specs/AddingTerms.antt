@@ -6,14 +6,13 @@
 --     FilesOnlyLookedUp     each new class is what a subterm is looked up as now
 --     IsEqualToTerm g a t   by what was asserted the id is equal to the term, whatever names are filled in
 use Rattle.std.specs.Prelude.{◌≡◌, ◌⊎◌, ◌<◌, ◌≤◌, ℕ, suc, All, IsSome, None, Some}
-use Rattle.slotted_slots.specs.Table.{KnowsMore, Table}
+use Rattle.slotted_slots.specs.Table.{KnowsMore, Table, AllKnown}
 use Rattle.slotted_theory.specs.Derives.{Equal}
 use Rattle.slotted_theory.specs.Nameless.{nameless}
 use Rattle.slotted_theory.specs.Term.{Term}
 use Rattle.slotted_nodes.specs.Form.{Form}
 use Rattle.slotted_languages.specs.NewNames.{IsTooLarge}
 use Rattle.slotted_languages.specs.Shape.{Fits}
-use Rattle.slotted_terms.specs.Valid.{AllKnown}
 use Rattle.slotted_model.specs.Applied.{Applied}
 use Rattle.slotted_model.specs.Classes.{term_of}
 use Rattle.slotted_model.specs.Growth.{Extends}

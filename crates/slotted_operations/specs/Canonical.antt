@@ -3,14 +3,10 @@
 --     binder_count d    how many binders
 --     HasLargeNode g    a canonical node has 2^30 places or more
 --     IsNodeOf g a f    f is the canonical node of an id's class, with the names of the id put in
---     IsBeside f h      h is f but for the ids of its children
-use Rattle.std.specs.Prelude.{◌≡◌, ℕ, ◌+◌, ◌^◌, ◌<◌, ◌≤◌, List, length}
-use Rattle.slotted_theory.specs.Term.{Term}
+use Rattle.std.specs.Prelude.{ℕ, ◌+◌, ◌^◌, ◌<◌, ◌≤◌, List, length}
 use Rattle.slotted_theory.specs.Nameless.{DArgs, DTerm, stop, place, sub, scope}
-use Rattle.slotted_nodes.specs.Form.{Form, children}
-use Rattle.slotted_languages.specs.Filled.{filled}
 use Rattle.slotted_model.specs.Classes.{canonical_node}
-pub use Rattle.slotted_congruence.specs.Named.{IsNodeOf}
+pub use Rattle.slotted_rebuilding.specs.Named.{IsNodeOf}
 
 abbrev pub args_count : DArgs → ℕ
 args_count stop = 0
@@ -33,10 +29,3 @@ binder_count d = args_binders d.args
 -- the node of some class has 2^30 places or more
 abbrev pub HasLargeNode : List DTerm → Type 0
 HasLargeNode nodes = (i : ℕ) × (i < length nodes) × (2 ^ 30 ≤ place_count (canonical_node nodes i))
-
--- operator, payloads, and what stands beside the children are the same
-pub record IsBeside (f h : Form) : Type 0 where
-  pub operator : h.operator ≡ f.operator
-  pub payloads : h.payloads ≡ f.payloads
-  pub count : length (children h.tree) ≡ length (children f.tree)
-  pub outline : (us : List Term) → length us ≡ length (children f.tree) → filled h.tree h.names us ≡ filled f.tree f.names us

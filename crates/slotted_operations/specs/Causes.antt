@@ -10,8 +10,7 @@
 --     HasLargeClassOrNode g f, HasLargeClassOrTerm g t     or so would a class of the node, or of a node of the term
 --     CanRunOutForNode, CanRunOutForTerm     why slots can run out where these are added
 use Rattle.std.specs.Prelude.{◌≡◌, ℕ, zero, suc, ◌^◌, ◌<◌, ◌≤◌, ◌⊎◌, List, [], ◌∷◌, All, None, length, slice_index_or}
-use Rattle.slotted_slots.specs.Table.{slot_limit}
-use Rattle.slotted_slots.specs.Table.{Table}
+use Rattle.slotted_slots.specs.Table.{slot_limit, Table}
 use Rattle.slotted_theory.specs.Nameless.{DArgs, DTerm, nameless, stop, place, sub, scope}
 use Rattle.slotted_theory.specs.Term.{Term, term_size}
 use Rattle.slotted_nodes.specs.Form.{Form}
@@ -20,7 +19,7 @@ use Rattle.slotted_model.specs.Applied.{Applied}
 use Rattle.slotted_model.specs.Classes.{IsFull, canonical_node, canonical_slots}
 use Rattle.slotted_model.specs.Ids.{id_of, id_of_node}
 pub use Rattle.slotted_proofs.specs.Equations.{HaveManyNames, HasManyNames}
-pub use Rattle.slotted_congruence.specs.Named.{SidesRunOut, IsWideClass}
+pub use Rattle.slotted_rebuilding.specs.Named.{SidesRunOut, IsWideClass}
 pub use Rattle.slotted_languages.specs.Sizes.{IsWideNode}
 use Rattle.slotted_operations.specs.Canonical.{place_count}
 use Rattle.slotted_operations.specs.Graph.{RunsOutForNode, RunsOutForTerm}

@@ -8,7 +8,7 @@
 use Rattle.std.specs.Prelude.{◌≡◌, ◌⊎◌, ℕ, suc, ◌<◌, ◌≤◌, All, List, [], ◌∷◌, ◌++◌, length, Bool, false, Option, Some, None, Contains, IsSome}
 use base.Stored.{Gv}
 use Rattle.slotted_slots.specs.declared.types.AppliedId.{AppliedId}
-use Rattle.slotted_slots.specs.Table.{KnowsMore, Table, empty_table}
+use Rattle.slotted_slots.specs.Table.{KnowsMore, Table, empty_table, AllKnown}
 use Rattle.slotted_theory.specs.Term.{Term}
 use Rattle.slotted_theory.specs.Nameless.{DTerm, nameless}
 use Rattle.slotted_theory.specs.Shape.{shape}
@@ -16,7 +16,6 @@ use Rattle.slotted_nodes.specs.Form.{Form, IsSmall}
 use Rattle.slotted_languages.specs.NewNames.{IsTooLarge}
 use Rattle.slotted_languages.specs.NodeTerm.{nameless_node}
 use Rattle.slotted_languages.specs.Shape.{Fits}
-use Rattle.slotted_terms.specs.Valid.{AllKnown}
 use Rattle.slotted_model.specs.Adding.{SameAnswers, with_new_class}
 use Rattle.slotted_model.specs.Adding as model
 use Rattle.slotted_model.specs.Applied.{Applied, EachChild, values}

@@ -14,9 +14,8 @@ use Rattle.slotted_theory.specs.Term.{Term}
 use Rattle.slotted_theory.specs.Nameless.{DTerm, nameless}
 use Rattle.slotted_theory.specs.Shape.{shape}
 use Rattle.slotted_slots.specs.declared.types.AppliedId.{AppliedId}
-use Rattle.slotted_slots.specs.Table.{Table, slot_limit, fresh_slot, KnowsMore}
+use Rattle.slotted_slots.specs.Table.{Table, slot_limit, fresh_slot, KnowsMore, AllKnown}
 use Rattle.slotted_nodes.specs.Form.{Form}
-use Rattle.slotted_terms.specs.Valid.{AllKnown}
 use Rattle.slotted_model.specs.Applied.{Applied, values}
 use Rattle.slotted_model.specs.Classes.{canonical_slots, IsFull}
 use Rattle.slotted_model.specs.Ids.{id_of}

@@ -6,15 +6,16 @@ use Rattle.std.specs.Prelude.{◌≡◌, ◌<◌, ℕ, List, [], ◌∷◌, ◌+
 use Rattle.slotted_theory.specs.Term.{Term}
 use Rattle.slotted_theory.specs.Nameless.{nameless}
 use Rattle.slotted_slots.specs.declared.types.AppliedId.{AppliedId}
-use Rattle.slotted_slots.specs.Table.{Table}
+use Rattle.slotted_slots.specs.Table.{Table, AllKnown}
 use Rattle.slotted_nodes.specs.Form.{Form, children}
 use Rattle.slotted_languages.specs.Shape.{Fits}
-use Rattle.slotted_terms.specs.Valid.{AllKnown, IsValidTerm}
+use Rattle.slotted_terms.specs.Valid.{IsValidTerm}
 use Rattle.slotted_model.specs.Applied.{Applied}
 use Rattle.slotted_model.specs.Classes.{term_of}
 use Rattle.slotted_proofs.specs.Equations.{to_applied}
 use Rattle.slotted_classes.specs.Kept.{Kept, nodes_of}
-use Rattle.slotted_operations.specs.Canonical.{IsBeside, IsNodeOf}
+use Rattle.slotted_languages.specs.Beside.{IsBeside}
+use Rattle.slotted_operations.specs.Canonical.{IsNodeOf}
 use Rattle.slotted_operations.specs.Nodes.{child_ids}
 use Rattle.slotted_operations.specs.Preorder.{HasEnough, built}
 use Rattle.slotted_operations.specs.Syn.{KnowsSlotsAnd}

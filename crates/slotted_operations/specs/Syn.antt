@@ -16,10 +16,10 @@ use Rattle.slotted_theory.specs.Term.{Term}
 use Rattle.slotted_theory.specs.Nameless.{DTerm, nameless}
 use Rattle.slotted_slots.specs.declared.types.AppliedId.{AppliedId}
 use Rattle.slotted_slots.specs.Maps.{values}
-use Rattle.slotted_slots.specs.Table.{Table}
+use Rattle.slotted_slots.specs.Table.{Table, AllKnown}
 use Rattle.slotted_nodes.specs.Form.{Form}
 use Rattle.slotted_languages.specs.NewNames.{BindersAreUnknown}
-use Rattle.slotted_terms.specs.Valid.{AllKnown, IsValidTerm}
+use Rattle.slotted_terms.specs.Valid.{IsValidTerm}
 use Rattle.slotted_model.specs.Applied.{Applied, keys}
 use Rattle.slotted_model.specs.Classes.{canonical_node, canonical_term, term_of, IsFull}
 use Rattle.slotted_proofs.specs.Equations.{to_applied}

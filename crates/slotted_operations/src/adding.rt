@@ -17,13 +17,14 @@ ghost use Rattle.slotted_operations.specs.Nodes.{child_ids};
 ghost use Rattle.slotted_operations.specs.Places.{term_slots};
 
 use crate::names::{
-    PLACES, keys_are_values, places_are_known, renew_values, values_are_keys, values_are_known,
+    keys_are_values, places_are_known, renew_values, values_are_keys, values_are_known,
 };
 use crate::stacks::over_last;
 use slotted_classes::names::map_between;
 use slotted_classes::{Row, Store};
 use slotted_hashcons::Hashcons;
 use slotted_languages::Language;
+use slotted_languages::shape::PLACES;
 use slotted_rebuilding::newest::file_newest;
 use slotted_slots::{AppliedId, Error, Id, SlotMap, SlotTable};
 use slotted_terms::expr::RecExpr;

@@ -6,15 +6,15 @@ ghost use Rattle.slotted_proofs.specs.StepClaims.{IsOfFull};
 ghost use Rattle.slotted_proofs.specs.Steps.{IsRefusal};
 ghost use Rattle.slotted_operations.specs.Causes.{HasManyNames, SidesRunOut};
 ghost use Rattle.slotted_classes.specs.Kept.{EntersBy, nodes_of};
-ghost use Rattle.slotted_congruence.specs.Frames.{FitsCongruent, FitsReflexive, FitsSymmetric, FitsTransitive};
+ghost use Rattle.slotted_rebuilding.specs.Frames.{FitsCongruent, FitsReflexive, FitsSymmetric, FitsTransitive};
 ghost use Rattle.slotted_operations.specs.Good.{Good};
 
 use crate::adding::is_full;
 use slotted_alike::alike::child_equations;
 use slotted_classes::Store;
-use slotted_congruence::named::named_node;
 use slotted_languages::Language;
 use slotted_proofs::{Equation, ProvenEq};
+use slotted_rebuilding::named::named_node;
 use slotted_slots::Error;
 use std::alloc::Global;
 

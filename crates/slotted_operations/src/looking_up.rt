@@ -1,10 +1,10 @@
 //! Adding by look-up, over ids that may omit names of redundant slots.
 ghost use Rattle.std.specs.Prelude.{IfErr, IfOk, IsErrOf};
 ghost use Rattle.slotted_slots.specs.Error.{IsShortage};
-ghost use Rattle.slotted_slots.specs.Table.{KnowsMore};
+ghost use Rattle.slotted_slots.specs.Table.{KnowsMore, AllKnown};
 ghost use Rattle.slotted_hashcons.specs.NormalNodes.{HasFindableChildren};
 ghost use Rattle.slotted_proofs.specs.Equations.{to_applied};
-ghost use Rattle.slotted_terms.specs.Valid.{AllKnown, IsValidTerm};
+ghost use Rattle.slotted_terms.specs.Valid.{IsValidTerm};
 ghost use Rattle.slotted_classes.specs.Kept.{nodes_of};
 ghost use Rattle.slotted_operations.specs.Adding.{RunsOutForFilled, slots_needed};
 ghost use Rattle.slotted_operations.specs.Causes.{IsUnknownIfFull};

@@ -1,20 +1,15 @@
 //! Maps of names for a new class, and tests of the names of ids and e-nodes.
 ghost use Rattle.std.specs.Prelude.{◌≡◌, ◌↔◌, ◌+◌, ◌≤◌, ◌^◌, ℕ, length, Contains, IsTrue, IfErr, OnOk};
 ghost use Rattle.slotted_theory.specs.FiniteMaps.{IsInjectiveMap};
-ghost use Rattle.slotted_terms.specs.Valid.{AllKnown};
+ghost use Rattle.slotted_slots.specs.Table.{AllKnown, KnowsMore};
 ghost use Rattle.slotted_slots.specs.Maps.{keys, values};
-ghost use Rattle.slotted_slots.specs.Table.{KnowsMore};
 ghost use Rattle.slotted_nodes.specs.Form.{IsSmall};
 ghost use Rattle.slotted_model.specs.Ascending.{ascending, IsAscending};
 ghost use Rattle.slotted_classes.specs.Names.{fresh_slots};
 ghost use Rattle.slotted_operations.specs.Graph.{MakesAtMost, RunsOut};
 
-use slotted_classes::names::has_value;
 use slotted_languages::Language;
 use slotted_slots::{Error, SlotMap, SlotTable};
-
-/// The number of places from which on an e-node cannot be numbered.
-pub const PLACES: usize = 1 << 30;
 
 /// Replaces each value by a fresh slot.
 pub fn renew_values(map: &mut SlotMap, table: &mut SlotTable) -> Result<(), Error>
@@ -55,7 +50,7 @@ pub fn keys_are_values(map: &SlotMap, slots: &SlotMap) -> bool
     ensures ascending { IsAscending (keys map.now) }
 {
     for (slot, _) in map.iter() {
-        if !has_value(slots, slot) {
+        if !slots.has_value(slot) {
             return false;
         }
     }

@@ -1,10 +1,10 @@
 //! The equation that a union asserts: that of its two ids, whatever names are filled in for those that they omit.
-ghost use Rattle.std.specs.Prelude.{◌≡◌, ◌↔◌, IsTrue, IfErr, IfOk, IsErrOf};
+ghost use Rattle.std.specs.Prelude.{◌↔◌, IsTrue, IfErr, IfOk, IsErrOf};
 ghost use Rattle.slotted_theory.specs.FiniteMaps.{IsInjectiveMap};
-ghost use Rattle.slotted_slots.specs.Error.{IsOutOfMemory, IsShortage};
+ghost use Rattle.slotted_slots.specs.Error.{IsShortage};
 ghost use Rattle.slotted_model.specs.Applied.{keys};
-ghost use Rattle.slotted_model.specs.Classes.{IsFull, canonical_slots};
-ghost use Rattle.slotted_model.specs.Correspondence.{IsPartialInjection, identity, same_names};
+ghost use Rattle.slotted_model.specs.Classes.{IsFull};
+ghost use Rattle.slotted_model.specs.Correspondence.{IsPartialInjection, same_names};
 ghost use Rattle.slotted_proofs.specs.Equations.{HaveManyNames, IsWritten, partnered_statement, to_applied};
 ghost use Rattle.slotted_classes.specs.Finding.{IsFindable};
 ghost use Rattle.slotted_classes.specs.Kept.{nodes_of, text_bytes};
@@ -13,9 +13,8 @@ ghost use Rattle.slotted_operations.specs.Good.{Good, image_of};
 ghost use Rattle.slotted_operations.specs.Sides.{AreSidesOf, EntersFilled};
 
 use slotted_classes::Store;
-use slotted_classes::names::map_between;
 use slotted_languages::Language;
-use slotted_proofs::{Equation, ProvenEq};
+use slotted_proofs::{Equation, ProvenEq, shared_names};
 use slotted_slots::{AppliedId, Error, SlotMap};
 use std::alloc::Global;
 
@@ -39,32 +38,6 @@ fn have_all_names<L: Language>(store: &Store<L>, l: &AppliedId, r: &AppliedId) -
     has_all_names(store, l) && has_all_names(store, r)
 }
 
-// Returns the class of an id, with each of its canonical slots as its name.
-fn own_id<L: Language>(store: &Store<L>, alloc: Global, a: &AppliedId) -> Result<AppliedId, Error>
-    requires good { Good store.now }
-    requires findable { IsFindable store.now (to_applied a.now) }
-    ensures ok { IfOk result
-        (λ o. to_applied o ≡ (a.now.id.0, identity (canonical_slots (nodes_of store.now) a.now.id.0))) }
-    ensures err { IfErr result IsOutOfMemory }
-{
-    let slots = store.names_of(a.id.0);
-    Ok(AppliedId {
-        id: a.id,
-        m: map_between(alloc, slots, slots)?,
-    })
-}
-
-// Returns the map from slots on the right to the slots on the left that have the same names.
-fn partners(alloc: Global, l: &SlotMap, r: &SlotMap) -> Result<SlotMap, Error>
-    requires { IsInjectiveMap l.now }
-    ensures ok { IfOk result (λ m. m ≡ same_names r.now l.now) }
-    ensures err { IfErr result IsOutOfMemory }
-{
-    let slots = l.inverse(alloc)?;
-    let partners = r.compose_partial(alloc, &slots)?;
-    Ok(partners)
-}
-
 // Returns the equation over the slots of two ids in which those slots share a name that have one name in two maps.
 fn equation_over(
     alloc: Global,
@@ -79,7 +52,7 @@ fn equation_over(
     ensures full { IsErrOf result Error.OutOfSlots → HaveManyNames left.now.m right.now.m }
     ensures err { IfErr result IsShortage }
 {
-    let partners = partners(alloc, l, r)?;
+    let partners = shared_names(alloc, r, l)?;
     let equation = Equation::by_partners(alloc, left, right, &partners)?;
     Ok(equation)
 }
@@ -99,8 +72,8 @@ fn class_equation<L: Language>(
     ensures full { IsErrOf result Error.OutOfSlots → HasLargeClassIn (image_of store.now) }
     ensures err { IfErr result IsShortage }
 {
-    let left = own_id(store, alloc, l)?;
-    let right = own_id(store, alloc, r)?;
+    let left = store.own_id(alloc, l.id.0)?;
+    let right = store.own_id(alloc, r.id.0)?;
     let equation = equation_over(alloc, &left, &right, &l.m, &r.m)?;
     Ok(equation)
 }

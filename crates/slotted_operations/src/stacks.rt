@@ -4,7 +4,7 @@ ghost use Rattle.slotted_slots.specs.Error.{IsOutOfMemory};
 ghost use Rattle.slotted_nodes.specs.Form.{children};
 ghost use Rattle.slotted_languages.specs.Filled.{term_of};
 ghost use Rattle.slotted_terms.specs.Flat.{flat_of};
-ghost use Rattle.slotted_operations.specs.Canonical.{IsBeside};
+ghost use Rattle.slotted_languages.specs.Beside.{IsBeside};
 ghost use Rattle.slotted_operations.specs.Nodes.{child_ids, to_applied};
 ghost use Rattle.slotted_operations.specs.Preorder.{IsOfOneTerm, built};
 

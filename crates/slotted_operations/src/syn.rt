@@ -3,12 +3,13 @@
 ghost use Rattle.std.specs.Prelude.{◌≡◌, ◌<◌, ◌*◌, map, IfOk, IfErr, IsErrOf, All};
 ghost use Rattle.slotted_theory.specs.Nameless.{nameless};
 ghost use Rattle.slotted_slots.specs.Error.{IsShortage};
-ghost use Rattle.slotted_slots.specs.Table.{KnowsMore};
+ghost use Rattle.slotted_slots.specs.Table.{KnowsMore, AllKnown};
 ghost use Rattle.slotted_nodes.specs.Form.{IsSmall};
 ghost use Rattle.slotted_terms.specs.Flat.{flat_of};
-ghost use Rattle.slotted_terms.specs.Valid.{AllKnown, IsValidTerm};
+ghost use Rattle.slotted_terms.specs.Valid.{IsValidTerm};
 ghost use Rattle.slotted_model.specs.Classes.{IsFull, term_of};
-ghost use Rattle.slotted_operations.specs.Canonical.{IsNodeOf, IsBeside};
+ghost use Rattle.slotted_operations.specs.Canonical.{IsNodeOf};
+ghost use Rattle.slotted_languages.specs.Beside.{IsBeside};
 ghost use Rattle.slotted_operations.specs.Good.{Good, HasFreshSlots, IsFullOver, IsIdOver, IsNodeOver};
 ghost use Rattle.slotted_operations.specs.Graph.{MakesAtMost};
 ghost use Rattle.slotted_classes.specs.Kept.{nodes_of};

@@ -6,8 +6,8 @@ ghost use Rattle.slotted_terms.specs.Valid.{IsValidTerm};
 ghost use Rattle.slotted_operations.specs.Nodes.{IsChildPlace, IsKnownPlace, IsValidOver, HasKnownPlaces};
 ghost use Rattle.slotted_operations.specs.SmallNodes.{HasSmallNodes, IsSmallValidTerm, IsTermOver, total_size};
 
-use crate::names::PLACES;
 use slotted_languages::Language;
+use slotted_languages::shape::PLACES;
 use slotted_slots::SlotTable;
 use slotted_terms::expr::RecExpr;
 

@@ -20,4 +20,7 @@ pub mod PatternTrees
 pub mod PatternSizes
 pub mod Folds
 pub mod PatternCopies
+pub mod Shapes
+pub mod ComparedShapes
+pub mod EqualTrees
 pub mod PieceTexts

@@ -1,11 +1,11 @@
 -- A copy of a pattern over copies of its parts.
-use Rattle.std.proofs.Common.{◌≡◌, ◌+◌, ◌-◌, ◌≤◌, ℕ, List, [], ◌∷◌, ◌++◌, length, map, take, drop, option_to_list, Option, Vec, refl, sym, ap, subst, ◌∙◌, arith, append_assoc}
+use Rattle.std.proofs.Common.{◌≡◌, ◌-◌, ◌≤◌, ℕ, List, [], ◌∷◌, ◌++◌, length, map, take, drop, option_to_list, Option, Vec, refl, sym, ap, subst, ◌∙◌, arith, append_assoc}
 use Rattle.std.specs.Prelude.{Box, Result, Ok, Err, Some, IfOk, OnOk}
 use Rattle.std.specs.declared.alloc.Global.{Global}
 use Rattle.std.proofs.lemmas.List.{length-map, map-append, take-map, drop-map}
 use Rattle.slotted_nodes.specs.Form.{Form}
 use Rattle.slotted_patterns.specs.Subpatterns.{before_parts, parts, EndsInParts, IsSubstitution}
-use Rattle.slotted_patterns.specs.Tree.{PatternTree, enode, pvar, substitution, row_of}
+use Rattle.slotted_patterns.specs.Tree.{PatternTree, enode, pvar, substitution}
 use Rattle.slotted_patterns.specs.View.{tree_of}
 use Rattle.slotted_patterns.specs.declared.pattern.Pattern.{Pattern, ENode, Subst}
 use Rattle.slotted_patterns.proofs.Folds.{ends-drop, ends-length, patterns_in-row, same_ends}

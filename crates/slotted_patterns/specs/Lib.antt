@@ -2,6 +2,8 @@
 pub mod Tree
 pub mod View
 pub mod Subpatterns
+pub mod Shape
+pub mod Compared
 pub mod Grammar
 pub mod Outcome
 pub mod Parsed

@@ -2,6 +2,7 @@
 #![tactic(auto)]
 
 mod grammar;
+pub mod layout;
 pub mod parse;
 pub mod pattern;
 pub mod read_again;

@@ -1,18 +1,20 @@
 //! Terms with variables and substitutions in them.
-ghost use Rattle.std.specs.Prelude.{◌≡◌, ◌≤◌, ◌++◌, length, map, string_bytes, IfOk, IfErr, IfSome, IfNone, OnOk};
+ghost use Rattle.std.specs.Prelude.{◌≡◌, ◌≤◌, ◌++◌, length, map, string_bytes, IfOk, IfErr, IfSome, IfNone, OnOk, MatchResult};
 ghost use Rattle.slotted_slots.specs.Error.{IsOutOfMemory};
+ghost use Rattle.slotted_patterns.specs.Shape.{head, heads, parts_of, shape};
 ghost use Rattle.slotted_patterns.specs.Subpatterns.{before_parts, parts, subpatterns, EndsInParts, IsNode, IsSubstitution};
 ghost use Rattle.slotted_patterns.specs.Tree.{enode, row_of};
 ghost use Rattle.slotted_patterns.specs.View.{tree_of};
 
 use slotted_languages::language::Language;
 use slotted_slots::Error;
-use std::alloc::Global;
+use std::alloc::{AllocError, Global};
 
+mod comparing;
+mod debugging;
 pub mod printing;
 
 /// A pattern: a term with variables and substitutions in it. The child ids inside a node are ignored.
-#[derive(Debug, Clone, PartialEq, Eq, Hash)]
 pub enum Pattern<L: Language> {
     /// A node over the patterns that stand in the places of its children.
     ENode(L, Vec<Pattern<L>>),
@@ -86,6 +88,19 @@ impl<L: Language> Pattern<L> {
     }
 }
 
+impl<L: Language> Clone for Pattern<L> {
+    ghost is_clone = { λ p c. tree_of L.form c ≡ tree_of L.form p };
+
+    fn clone(&self) -> Result<Self, AllocError>
+        ensures cases { MatchResult result (λ c. tree_of L.form c ≡ tree_of L.form self.now) (λ _. ¬ ⊥) }
+    {
+        match self.copy(self.allocator()) {
+            Ok(copy) => Ok(copy),
+            Err(_) => Err(AllocError),
+        }
+    }
+}
+
 // Adds the patterns to those that are left.
 fn push_all<'a, L: Language>(
     left: &mut Vec<&'a Pattern<L>>,
@@ -93,6 +108,8 @@ fn push_all<'a, L: Language>(
 ) -> Result<(), Error>
     ensures ok { OnOk result (map (λ p. tree_of L.form p.now) left.new.items
         ≡ map (λ p. tree_of L.form p.now) left.old.items ++ map (tree_of L.form) patterns.now) }
+    ensures shapes { OnOk result (map (λ p. shape p.now) left.new.items
+        ≡ map (λ p. shape p.now) left.old.items ++ map shape patterns.now) }
     ensures err { IfErr result IsOutOfMemory }
 {
     for pattern in patterns {
@@ -108,6 +125,8 @@ fn push_parts<'a, L: Language>(
 ) -> Result<(), Error>
     ensures ok { OnOk result (map (λ p. tree_of L.form p.now) left.new.items
         ≡ map (λ p. tree_of L.form p.now) left.old.items ++ parts (tree_of L.form pattern.now)) }
+    ensures shapes { OnOk result (map (λ p. shape p.now) left.new.items
+        ≡ map (λ p. shape p.now) left.old.items ++ parts_of (shape pattern.now)) }
     ensures err { IfErr result IsOutOfMemory }
 {
     match pattern {
@@ -128,6 +147,7 @@ fn all_inside<'a, L: Language>(
     pattern: &'a Pattern<L>,
 ) -> Result<Vec<&'a Pattern<L>>, Error>
     ensures ok { IfOk result (λ v. map (λ p. tree_of L.form p.now) v.items ≡ subpatterns (tree_of L.form pattern.now)) }
+    ensures heads { IfOk result (λ v. map (λ p. head (shape p.now)) v.items ≡ heads (shape pattern.now)) }
     ensures err { IfErr result IsOutOfMemory }
 {
     let mut found = Vec::new(alloc);

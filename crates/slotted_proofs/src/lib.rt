@@ -13,6 +13,7 @@ pub mod steps;
 pub use equation::Equation;
 pub use lines::ProofLines;
 pub use list::ProofList;
+pub use numbering::shared_names;
 pub use proof::{
     CongruenceProof, ExplicitProof, Proof, ProvenEq, ProvenEqRaw, ReflexivityProof, SymmetryProof,
     TransitivityProof,

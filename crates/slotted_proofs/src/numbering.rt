@@ -16,8 +16,8 @@ use std::alloc::Global;
 /// The number of places from which on an equation cannot be numbered.
 const PLACES: usize = 1 << 30;
 
-// Returns the map from slots of the one map to the slots of the other that have the same names.
-pub(crate) fn shared_names(alloc: Global, from: &SlotMap, to: &SlotMap) -> Result<SlotMap, Error>
+/// Returns the map from slots of the one map to the slots of the other that have the same names.
+pub fn shared_names(alloc: Global, from: &SlotMap, to: &SlotMap) -> Result<SlotMap, Error>
     requires { IsInjectiveMap to.now }
     ensures ok { IfOk result (λ m. m ≡ same_names from.now to.now) }
     ensures err { IfErr result IsOutOfMemory }

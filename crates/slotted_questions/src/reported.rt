@@ -91,6 +91,11 @@ fn all_members<L: Language>(graph: &EGraph<L>) -> Result<usize, Error> {
     Ok(count)
 }
 
+/// Returns whether the total number of e-nodes is what the sets of all live classes have together.
+pub fn has_each_once<L: Language>(graph: &EGraph<L>) -> Result<bool, Error> {
+    Ok(all_members(graph)? == graph.total_number_of_nodes())
+}
+
 /// Returns whether the filed e-nodes of an id's class ascend, and are looked up as the id.
 pub fn are_its<L: Language>(
     alloc: Global,

@@ -3,7 +3,7 @@ use crate::found::{make_side, stays};
 use crate::graphs::{parted, slot, yes};
 use crate::ids::{are_counted, holds, related, sides_related, turn, unite_because};
 use crate::nodes::is_known;
-use crate::reported::{are_its, has_left_size, is_within_bounds, number_of};
+use crate::reported::{are_its, has_each_once, has_left_size, is_within_bounds, number_of};
 use crate::steps;
 use crate::terms::{canonical, dumped, is_null_inside, printed};
 use slotted_graph::EGraph;
@@ -138,6 +138,7 @@ fn asked_of_graph<L: Language>(
         ("knows", name) => told(knows(alloc, graph, name)),
         ("null", _) => Ok(yes(graph.is_valid(&AppliedId::null(alloc)))),
         ("counted", _) => told(are_counted(graph)),
+        ("once", _) => told(has_each_once(graph)),
         ("turned", _) => Ok(yes(graph.last_rebuild().turns > 0)),
         ("within", _) => Ok(yes(is_within_bounds(graph))),
         ("left", _) => Ok(yes(has_left_size(graph))),

@@ -23,10 +23,10 @@ use Rattle.slotted_unions.proofs.KeptSlots.{grows-then}
 use Rattle.slotted_hashcons.specs.WellFiled.{state_in, IsKeyed, IsWellFiled}
 use Rattle.slotted_rebuilding.specs.Turns.{NarrowsTo, SharesKey, TakesTurns}
 use Rattle.slotted_languages.proofs.KeysByShapes.{one-key}
-use Rattle.slotted_rebuilding.proofs.NarrowedNodes.{filed-places, waiting-within}
+use Rattle.slotted_rebuilding.proofs.NormalNodes.{filed-places, waiting-within}
 use Rattle.slotted_rebuilding.proofs.Runs.{runs-join}
 use Rattle.slotted_hashcons.proofs.StaleRows.{stale-found}
-use Rattle.slotted_rebuilding.proofs.TakenTurns.{refiles-node}
+use Rattle.slotted_rebuilding.proofs.TurnEnds.{refiles-node}
 
 -- the shape of the node in normal form, in the words of the model
 pub found-shape : (k : Kept) (o : ℕ) (f : Form) (m : List (ℕ × ℕ)) → IsFoundNode k o f m → theory.shape (nameless_node f) ≡ theory.shape (normal_node (finds_of k) o)

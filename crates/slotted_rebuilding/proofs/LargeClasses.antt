@@ -17,8 +17,8 @@ use Rattle.slotted_unions.specs.Proving.{HasLargeClassOf}
 use Rattle.slotted_unions.specs.Settling.{HasLargeUnaligned}
 use Rattle.slotted_unions.specs.Grows.{Grows}
 use Rattle.slotted_unions.proofs.GrownRows.{grown-count}
-use Rattle.slotted_congruence.specs.Congruence.{AreTwins, TwinsRunOut}
-use Rattle.slotted_congruence.specs.Named.{IsWideClass}
+use Rattle.slotted_rebuilding.specs.Congruence.{AreTwins, TwinsRunOut}
+use Rattle.slotted_rebuilding.specs.Named.{IsWideClass}
 use Rattle.slotted_rebuilding.specs.Causes.{HasLargeClass}
 
 -- the error that a `?` hands on is the one that it was given

@@ -33,13 +33,13 @@ use Rattle.slotted_rebuilding.specs.Filed.{UnitesFiled}
 use Rattle.slotted_rebuilding.specs.NewClasses.{BeginsAdding, FilesNewest, HasNewest, IsUnfiled}
 use Rattle.slotted_rebuilding.specs.Turns.{ProvesCongruence, Rebuilds, SharesKey}
 use Rattle.slotted_rebuilding.proofs.Collisions.{found-shape, has-key}
-use Rattle.slotted_rebuilding.proofs.CountedRebuilds.{rebuild-fits}
-use Rattle.slotted_rebuilding.proofs.EnteredCongruences.{congruence-in, proved-well, stands-within}
+use Rattle.slotted_rebuilding.proofs.RebuildCounts.{rebuild-fits}
+use Rattle.slotted_rebuilding.proofs.CongruenceEntries.{congruence-in, proved-well, stands-within}
 use Rattle.slotted_rebuilding.proofs.FiledStates.{united-well}
-use Rattle.slotted_rebuilding.proofs.NarrowedNodes.{filed-places}
+use Rattle.slotted_rebuilding.proofs.NormalNodes.{filed-places}
 use Rattle.slotted_rebuilding.proofs.NewRows.{HasNoTwinRow, new_row-sane}
 use Rattle.slotted_rebuilding.proofs.Runs.{runs-join, runs-sane}
-use Rattle.slotted_rebuilding.proofs.TakenTurns.{each-refiled}
+use Rattle.slotted_rebuilding.proofs.TurnEnds.{each-refiled}
 
 -- there is a place more, where nothing is filed
 

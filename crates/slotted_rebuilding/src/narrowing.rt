@@ -9,9 +9,9 @@ ghost use Rattle.slotted_rebuilding.specs.Causes.{HasLargeClass};
 ghost use Rattle.slotted_hashcons.specs.WellFiled.{IsWellFiled};
 ghost use Rattle.slotted_rebuilding.specs.Turns.{IsFirst, LacksSlot, NarrowsOnce, NarrowsTo, ProvesCongruence};
 
+use crate::twins::congruence;
 use crate::uniting::unite;
 use slotted_classes::Store;
-use slotted_congruence::twins::congruence;
 use slotted_hashcons::covered::is_covered;
 use slotted_hashcons::found::refound_node;
 use slotted_hashcons::sides::sides;

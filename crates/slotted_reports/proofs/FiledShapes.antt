@@ -18,7 +18,7 @@ use Rattle.slotted_languages.proofs.Shapes.{injective-shape, shape-renamed}
 use Rattle.slotted_model.specs.State.{Row}
 use Rattle.slotted_hashcons.specs.Filed.{Filing, filed_of}
 use Rattle.slotted_hashcons.specs.FiledRows.{row_at, row_of_entry, rows_from, rows_in}
-use Rattle.slotted_lookup.proofs.Reported.{next-fails, next-passes}
+use Rattle.slotted_lookup.proofs.ReportLists.{next-fails, next-passes}
 use Rattle.slotted_reports.specs.Nodes.{key_at, key_in, key_of}
 
 -- a node has the shape of its key

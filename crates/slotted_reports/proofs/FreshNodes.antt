@@ -38,10 +38,10 @@ use Rattle.slotted_hashcons.specs.WellFiled.{IsWellFiled}
 use Rattle.slotted_lookup.specs.Enodes.{AllKnownTo, IsLargeKeyOf, IsMet, names_beside_of}
 use Rattle.slotted_lookup.specs.Filling.{RunsOut}
 use Rattle.slotted_lookup.proofs.EnodeNames.{beside-key, beside-looked_up}
-use Rattle.slotted_lookup.proofs.Reported.{In-among}
+use Rattle.slotted_lookup.proofs.ReportLists.{In-among}
 use Rattle.slotted_reports.specs.Nodes.{AreAppliedNodes, HasLargeKeyOf, IsAppliedNode, RunsOutForKeys, TakesForKeys, key_at, key_in, key_of, places_at}
 use Rattle.slotted_reports.proofs.FiledNodes.{among-in, filed-children, filed-names_known, filed-places, name-of, names-known, same-key}
-use Rattle.slotted_reports.proofs.Sorted.{mapped-more}
+use Rattle.slotted_reports.proofs.KeyOrder.{mapped-more}
 
 -- one key is counted alone
 pub one-key : (f : ℕ → ℕ) (o : ℕ) → sum_by f (o ∷ []) ≡ f o

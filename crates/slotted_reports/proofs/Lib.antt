@@ -1,6 +1,6 @@
 -- Lemmas of reports.
-pub mod Measured
-pub mod Sorted
+pub mod Counts
+pub mod KeyOrder
 pub mod FiledNodes
 pub mod FreshNodes
 pub mod FiledShapes

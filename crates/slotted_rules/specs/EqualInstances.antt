@@ -5,7 +5,7 @@
 use Rattle.std.specs.Prelude.{◌≡◌, ℕ, List, Contains, Bool, Some}
 use Rattle.slotted_theory.specs.Derives.{Equal}
 use Rattle.slotted_theory.specs.Nameless.{DTerm}
-use Rattle.slotted_terms.specs.Valid.{AllKnown}
+use Rattle.slotted_slots.specs.Table.{AllKnown}
 use Rattle.slotted_patterns.specs.Tree.{PatternTree}
 use Rattle.slotted_model.specs.Applied.{Applied}
 use Rattle.slotted_model.specs.Classes.{term_of, IsFull}

@@ -17,7 +17,7 @@ use Rattle.std.specs.Int.{from_bool}
 use Rattle.slotted_slots.specs.declared.error.Error.{Error}
 use Rattle.slotted_slots.specs.declared.error.Error.TheVariants.{NotATerm}
 use Rattle.slotted_theory.specs.Nameless.{DTerm}
-use Rattle.slotted_terms.specs.Valid.{AllKnown}
+use Rattle.slotted_slots.specs.Table.{AllKnown}
 use Rattle.slotted_patterns.specs.Tree.{PatternTree}
 use Rattle.slotted_model.specs.ProofList.{Equation, equation_at, explicit, step_at}
 use Rattle.slotted_proofs.specs.Entries.{proven_at}

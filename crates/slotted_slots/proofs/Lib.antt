@@ -14,3 +14,4 @@ pub mod SlotsTaken
 pub mod TableLaws
 pub mod Taken
 pub mod WholeMaps
+pub mod Among

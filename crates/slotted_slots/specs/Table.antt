@@ -1,5 +1,5 @@
 -- The table of slots: what a text names in it, which slots it knows, and how a slot prints.
-use Rattle.std.specs.Prelude.{◌≡◌, ℕ, zero, suc, ◌+◌, ◌*◌, ◌/◌, ◌%◌, ◌^◌, ◌<◌, ◌≤◌, Bool, true, false, ◌&&◌, List, [], ◌∷◌, ◌++◌, length, max, not, Option, Some, None, if◌then◌else◌, ◌==◌, nat_lt, position, slice_get, slice_index_or, IsTrue, decimal, codes}
+use Rattle.std.specs.Prelude.{◌≡◌, ℕ, zero, suc, ◌+◌, ◌*◌, ◌/◌, ◌%◌, ◌^◌, ◌<◌, ◌≤◌, Bool, true, false, ◌&&◌, List, [], ◌∷◌, ◌++◌, length, max, not, Option, Some, None, if◌then◌else◌, ◌==◌, nat_lt, position, slice_get, slice_index_or, All, IsTrue, decimal, codes}
 use Rattle.std.specs.List.{filter}
 use Rattle.std.specs.Str.{bytes_eq, all_ascii_digits}
 use Rattle.std.specs.Str.Parse.{digits_value, without_leading_plus}
@@ -103,6 +103,10 @@ named_of t bs = outcome_of t bs (reading_of bs)
 -- the slot is numeric, or fresh and made already, or that of a kept name
 unfoldable pub is_known : Table → ℕ → Bool
 is_known t s = if s % 4 == 0 then true else (if s % 4 == 1 then nat_lt (s / 4) t.fresh else (if s % 4 == 2 then nat_lt (s / 4) (length t.names) else false))
+
+-- the table knows each of the slots
+abbrev pub AllKnown : Table → List ℕ → Type 0
+AllKnown t xs = All (λ s. IsTrue (is_known t s)) xs
 
 -- what the old table knows the new one knows
 abbrev pub KnowsMore : Table → Table → Type 0

@@ -1,5 +1,5 @@
 //! Finite maps from slots to slots, in the order of their keys.
-ghost use Rattle.std.specs.Prelude.{◌≡◌, ℕ, List, [], ◌<◌, length, Some, OnOk, OnErr, IfOk, IfErr, slice_get, MatchResult, IsSome, IsOk, IsTrue, ◌↔◌, flat_map, is_some};
+ghost use Rattle.std.specs.Prelude.{◌≡◌, ℕ, List, [], ◌<◌, length, Some, OnOk, OnErr, IfOk, IfErr, slice_get, MatchResult, IsSome, IsOk, IsTrue, ◌↔◌, Contains, flat_map, is_some};
 ghost use Rattle.std.specs.Iterator.{YieldsFirst, item_count};
 ghost use Rattle.std.specs.Ordering.{nat_cmp};
 ghost use Rattle.std.specs.Cmp.Lexicographic.{pointwise, slice_cmp, slice_partial_cmp, lists_per, lists_equiv, lists_po, lists_total, lists_agrees, lists_ties};
@@ -150,6 +150,14 @@ impl SlotMap {
             set.insert(pair.1)?;
         }
         Ok(set)
+    }
+
+    /// Returns whether a slot is one of the values. Takes no memory.
+    pub fn has_value(&self, v: Slot) -> bool
+        ensures is { result ≡ is_among v (values self.now) }
+        ensures contains { IsTrue result ↔ Contains (values self.now) v }
+    {
+        has_value(self.pairs.as_slice(), v)
     }
 
     /// Returns whether no value stands twice. Takes no memory.

@@ -1,11 +1,8 @@
 -- Terms that a graph can take in: each node has the right number of children, and a table knows each name.
-use Rattle.std.specs.Prelude.{ℕ, ◌<◌, List, IsTrue, All}
+use Rattle.std.specs.Prelude.{◌<◌, IsTrue}
 use Rattle.slotted_theory.specs.Term.{Args, done, name, child, bind, Term}
 use Rattle.slotted_slots.specs.Table.{Table, is_known}
-
--- the table knows each of the slots
-abbrev pub AllKnown : Table → List ℕ → Type 0
-AllKnown t xs = All (λ s. IsTrue (is_known t s)) xs
+pub use Rattle.slotted_slots.specs.Table.{AllKnown}
 
 -- no child is missing and none is too many: where one is, the operator 0 stands
 abbrev pub IsWhole : Args → Type 0

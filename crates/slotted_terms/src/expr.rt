@@ -11,11 +11,10 @@ use std::alloc::{AllocError, Global};
 use std::marker::Model;
 
 mod alpha;
+mod debugging;
 pub mod printing;
 
 /// A term: a node, and the terms that stand in the places of its children. The child ids inside `node` are ignored.
-#[derive(Debug)]
-#[cycle(expr)]
 pub struct RecExpr<L: Language> {
     pub node: L,
     pub children: Vec<RecExpr<L>>,

@@ -14,6 +14,8 @@ mod applied;
 #[cfg(test)]
 mod checks;
 #[cfg(test)]
+mod debugged;
+#[cfg(test)]
 mod deep;
 #[cfg(test)]
 mod elements;

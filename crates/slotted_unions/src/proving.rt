@@ -36,8 +36,7 @@ fn is_whole<L: Language>(store: &Store<L>, a: &AppliedId) -> bool
     requires full { length a.now.m ≡ length (canonical_slots (nodes_of store.now) a.now.id.0) }
     ensures { IsTrue result → FindsWhole store.now a.now.id.0 }
 {
-    let entry = store.entry(a.id.0);
-    entry.id.0 == a.id.0 && entry.m.len() == a.m.len()
+    store.is_canonical(a)
 }
 
 // Returns whether an entry says what `find` does to a class: its right side is canonical, and `find` maps its left

@@ -1,10 +1,10 @@
 //! Adding e-nodes and terms, and carrying data along.
 ghost use Rattle.std.specs.Prelude.{◌≡◌, IfErr, IfOk, IsErrOf, OnOk};
 ghost use Rattle.slotted_slots.specs.Error.{IsShortage};
-ghost use Rattle.slotted_slots.specs.Table.{KnowsMore};
+ghost use Rattle.slotted_slots.specs.Table.{KnowsMore, AllKnown};
 ghost use Rattle.slotted_hashcons.specs.NormalNodes.{HasFindableChildren};
 ghost use Rattle.slotted_proofs.specs.Equations.{to_applied};
-ghost use Rattle.slotted_terms.specs.Valid.{AllKnown, IsValidTerm, IsWhole};
+ghost use Rattle.slotted_terms.specs.Valid.{IsValidTerm, IsWhole};
 ghost use Rattle.slotted_classes.specs.Kept.{nodes_of};
 ghost use Rattle.slotted_analyses.specs.Meaning.{by_bare_nodes};
 ghost use Rattle.slotted_data.specs.Carrying.{Carried, DataRests, HasCarriedAll};

@@ -9,7 +9,8 @@ ghost use Rattle.slotted_graph.specs.KnownPatterns.{is_unknown, knows_node, know
 use super::EGraph;
 use slotted_analyses::Analysis;
 use slotted_languages::Language;
-use slotted_operations::names::{PLACES, places_are_known};
+use slotted_languages::shape::PLACES;
+use slotted_operations::names::places_are_known;
 use slotted_patterns::Pattern;
 use slotted_rule_patterns::inside::{Question, first_such};
 use slotted_slots::{Error, SlotTable};

@@ -3,9 +3,7 @@ ghost use Rattle.std.specs.Prelude.{◌≡◌, ◌⊎◌, ◌↔◌, ◌+◌, �
 ghost use Rattle.slotted_lookup.specs.Reports.{live_ids};
 ghost use Rattle.slotted_slots.specs.Error.{IsOutOfMemory};
 ghost use Rattle.slotted_slots.specs.Naming.{IsNamingRefusal};
-ghost use Rattle.slotted_slots.specs.Table.{IsNewName, PrintsWord, fresh_slot, gives, is_known, named_of, no_place};
-ghost use Rattle.slotted_slots.specs.Table.{slot_limit, too_large};
-ghost use Rattle.slotted_terms.specs.Valid.{AllKnown};
+ghost use Rattle.slotted_slots.specs.Table.{IsNewName, PrintsWord, fresh_slot, gives, is_known, named_of, no_place, slot_limit, too_large, AllKnown};
 ghost use Rattle.slotted_proofs.specs.Equations.{to_applied};
 ghost use Rattle.slotted_operations.specs.Causes.{class_found};
 ghost use Rattle.slotted_operations.specs.ValidIds.{IsValidId};

@@ -2,11 +2,10 @@
 use Rattle.std.proofs.Common.{◌≡◌, ◌∙◌, Option, Some, ap, sym, subst}
 use Rattle.std.specs.Prelude.{IsSome, IsTrue}
 use Rattle.slotted_theory.specs.Nameless.{DTerm}
-use Rattle.slotted_slots.specs.Table.{KnowsMore, Table, is_known}
+use Rattle.slotted_slots.specs.Table.{KnowsMore, Table, is_known, AllKnown}
 use Rattle.slotted_nodes.specs.Form.{Form}
 use Rattle.slotted_languages.specs.NodeTerm.{nameless_node}
 use Rattle.slotted_languages.specs.Shape.{Fits}
-use Rattle.slotted_terms.specs.Valid.{AllKnown}
 use Rattle.slotted_model.specs.Applied.{Applied, EachChild}
 use Rattle.slotted_model.specs.Classes.{IsFull}
 use Rattle.slotted_model.specs.State.{look_up_node}

@@ -28,14 +28,14 @@ use Rattle.slotted_hashcons.specs.Filed.{Filing, filed_of}
 use Rattle.slotted_hashcons.specs.FiledRows.{Rows, row_of_entry, rows_in}
 use Rattle.slotted_hashcons.proofs.FiledRows.{row-filed}
 use Rattle.slotted_hashcons.specs.FoundNodes.{HasNoMorePlaces}
-use Rattle.slotted_hashcons.proofs.CanonicalChildren.{node-is}
+use Rattle.slotted_classes.proofs.ClassNodes.{node-is}
 use Rattle.slotted_hashcons.proofs.KeyedNodes.{same-places}
 use Rattle.slotted_classes.specs.Stored.{Stored}
 use Rattle.slotted_unions.specs.Grows.{GrowsUncounted}
 use Rattle.slotted_unions.proofs.GrownRows.{grown-count, grown-rows}
 use Rattle.slotted_rebuilding.specs.Causes.{HasLargeClass}
 use Rattle.slotted_rebuilding.specs.Counted.{CountsFit, CountsGo, CountsOn, TotalsFit}
-use Rattle.slotted_rebuilding.proofs.CountedRebuilds.{counts-same}
+use Rattle.slotted_rebuilding.proofs.RebuildCounts.{counts-same}
 use Rattle.slotted_hashcons.specs.WellFiled.{state_in}
 use Rattle.slotted_rebuilding.specs.NewClasses.{IsUnfiled, FilesNewest}
 use Rattle.slotted_rebuilding.proofs.FiledStates.{fits-grown}

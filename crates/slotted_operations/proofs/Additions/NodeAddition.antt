@@ -58,7 +58,7 @@ use Rattle.slotted_operations.specs.Nodes.{child_ids}
 use Rattle.slotted_classes.proofs.ChildIds.{Each-from_All, EachChild-node_args}
 use Rattle.slotted_operations.proofs.LookUps.Rows.{canonical_node-in, answer, look_up-rows, none_has}
 use Rattle.slotted_operations.proofs.Ids.FullIds.{length-classes}
-use Rattle.slotted_operations.proofs.Terms.LargeNodes.{large-old_or_new}
+use Rattle.slotted_operations.proofs.TermsOverIds.LargeNodes.{large-old_or_new}
 use Rattle.slotted_classes.proofs.KeptLists.{length-entries_of, length-proofs_of, equation_at-of}
 use Rattle.slotted_classes.proofs.NamePairs.{ascending-values, between-moved}
 use Rattle.slotted_classes.proofs.PutNames.{fits_put, shape-put, length-free, numeric-shape, put_own}

@@ -1,13 +1,12 @@
 -- A node that is added with its children filled: what it takes, and what it leaves.
 use Rattle.std.proofs.Common.{◌≡◌, ◌≤◌, ◌+◌, ◌∙◌, List, [], ◌∷◌, length, ap, refl, sym, arith, inl, inr}
 use Rattle.std.specs.Prelude.{All}
-use Rattle.slotted_slots.specs.Table.{KnowsMore, Table}
+use Rattle.slotted_slots.specs.Table.{KnowsMore, Table, AllKnown}
 use Rattle.slotted_slots.proofs.SlotsTaken.{fresh_goes_on}
 use Rattle.slotted_nodes.specs.Form.{Form}
 use Rattle.slotted_languages.specs.NewNames.{IsTooLarge}
 use Rattle.slotted_languages.specs.NodeTerm.{nameless_node}
 use Rattle.slotted_languages.specs.Shape.{Fits}
-use Rattle.slotted_terms.specs.Valid.{AllKnown}
 use Rattle.slotted_model.specs.Applied.{Applied}
 use Rattle.slotted_model.specs.Classes.{IsFull}
 use Rattle.slotted_classes.specs.Kept.{Kept, nodes_of}
@@ -15,7 +14,7 @@ use Rattle.slotted_hashcons.specs.FiledRows.{Rows}
 use Rattle.slotted_languages.specs.Sizes.{node_size}
 use Rattle.slotted_lookup.specs.Filling as filling
 use Rattle.slotted_lookup.specs.Filling.{FillsChildren, HasOneNormalForm, MakesFull, filled_node, missing_in, missing_of, with_fresh}
-use Rattle.slotted_lookup.proofs.FilledSizes.{filled_node-places, filled_node-size, missing_of-full}
+use Rattle.slotted_lookup.proofs.FillingSizes.{filled_node-places, filled_node-size, missing_of-full}
 use Rattle.slotted_operations.specs.Adding.{RunsOutForFilled, HasLargeClassOrFilled, children_lack, lacking_in, slots_needed}
 use Rattle.slotted_operations.specs.Causes.{CanRunOutForNode, HasLargeClassOrNode}
 use Rattle.slotted_operations.specs.Good.{Adds, AddsFilled, image_of}

@@ -27,7 +27,7 @@ use Rattle.slotted_languages.specs.Sizes.{node_size}
 use Rattle.slotted_hashcons.specs.WellFiled.{state_in}
 use Rattle.slotted_operations.specs.Causes.{HasLargeClassIn, CanRunOutForNode, CanRunOutForTerm, HasLargeClassOrTerm, IsUnknownNode, IsUnknownTerm}
 use Rattle.slotted_operations.specs.Good.{image_of, Good, RestsWith, HasFreshSlots, Adds, AddsTerm, KeepsNotes}
-use Rattle.slotted_operations.specs.Canonical.{IsBeside}
+use Rattle.slotted_languages.specs.Beside.{IsBeside}
 use Rattle.slotted_operations.specs.Graph.{MakesAtMost, RunsOutForNode, RunsOutForTerm}
 use Rattle.slotted_operations.specs.Nodes.{child_ids}
 use Rattle.slotted_operations.specs.Places.{args_places, term_places, term_slots}
@@ -44,8 +44,8 @@ use Rattle.slotted_operations.proofs.Additions.FiledSubterms.{Files, of_child, f
 use Rattle.slotted_operations.proofs.LookUps.NodesOfTrees.{node_has_id}
 use Rattle.slotted_operations.proofs.LookUps.Subterms.{children_found}
 use Rattle.slotted_operations.proofs.Additions.IdStacks.{Both, Both-at, Both-length, Both-map, Both-more, Both-split}
-use Rattle.slotted_operations.proofs.Terms.Layers.{match-from, expand-filled, each_at, child_smaller, whole_count, whole_each}
-use Rattle.slotted_operations.proofs.Terms.PlaceCounts.{child_places_fit, node_fits, node_size_fits}
+use Rattle.slotted_operations.proofs.TermsOverIds.Layers.{match-from, expand-filled, each_at, child_smaller, whole_count, whole_each}
+use Rattle.slotted_operations.proofs.TermsOverIds.PlaceCounts.{child_places_fit, node_fits, node_size_fits}
 use Rattle.slotted_operations.proofs.Additions.Tables.{makes-more, makes-none, makes-then, runs_out-then}
 use Rattle.slotted_operations.proofs.Additions.TermSlots.{slots_fit, slots_of}
 

@@ -6,13 +6,13 @@ use Rattle.slotted_theory.specs.Nameless.{DTerm, nameless}
 use Rattle.slotted_theory.specs.Term.{Term, done, term_size}
 use Rattle.slotted_theory.proofs.Values.{node}
 use Rattle.slotted_slots.specs.Maps.{values}
-use Rattle.slotted_slots.specs.Table.{KnowsMore, Table, is_known}
+use Rattle.slotted_slots.specs.Table.{KnowsMore, Table, is_known, AllKnown}
 use Rattle.slotted_nodes.specs.Form.{Form, children}
 use Rattle.slotted_languages.specs.Filled.{filled}
 use Rattle.slotted_languages.specs.Filled as form
 use Rattle.slotted_languages.specs.NodeTerm.{nameless_node}
 use Rattle.slotted_languages.specs.Shape.{Fits}
-use Rattle.slotted_terms.specs.Valid.{AllKnown, HasKnownNames, IsValidTerm}
+use Rattle.slotted_terms.specs.Valid.{HasKnownNames, IsValidTerm}
 use Rattle.slotted_terms.proofs.TermFolds.{TermFolds, TermStep, term_folds-end, term_folds-step, weigh-append, weighs}
 use Rattle.slotted_model.specs.Applied.{Applied, EachChild}
 use Rattle.slotted_model.specs.LookUp.{Renames, look_up}
@@ -29,7 +29,7 @@ use Rattle.slotted_hashcons.specs.FiledRows.{Rows}
 use Rattle.slotted_hashcons.specs.WellFiled.{state_in}
 use Rattle.slotted_operations.specs.Adding.{IsOfTerm, MakesFilledClass, slots_needed, term_nodes}
 use Rattle.slotted_operations.specs.Good.{AddsFound, AddsFoundTerm, AddsNodesIn, FilesSubterms, Good, HasFreshSlots, IsFoundIn, LacksForTermIn, RestsWith, RunsOutForUnknownIn, TakesForTermIn, image_of, none_added, one_added}
-use Rattle.slotted_operations.specs.Canonical.{IsBeside}
+use Rattle.slotted_languages.specs.Beside.{IsBeside}
 use Rattle.slotted_operations.specs.Graph.{MakesAtMost}
 use Rattle.slotted_operations.specs.Nodes.{child_ids}
 use Rattle.slotted_operations.specs.Places.{term_places}
@@ -40,7 +40,7 @@ use Rattle.slotted_operations.proofs.CallerLemmas.{known_later}
 use Rattle.slotted_operations.proofs.Additions.FiledSubterms.{of_child}
 use Rattle.slotted_operations.proofs.Ids.ValidIds.{renamed-findable}
 use Rattle.slotted_operations.proofs.LookUps.FoundNames.{free_from}
-use Rattle.slotted_operations.proofs.Terms.Layers.{each_at, whole_count}
+use Rattle.slotted_operations.proofs.TermsOverIds.Layers.{each_at, whole_count}
 use Rattle.slotted_operations.proofs.LookUps.FoundIds.{answer-name}
 use Rattle.slotted_operations.proofs.LookUps.Subterms.{Looked, children_found, looked-args}
 use Rattle.slotted_operations.proofs.Graphs.AtRest.{at-rest}

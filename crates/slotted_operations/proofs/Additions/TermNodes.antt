@@ -42,9 +42,9 @@ use Rattle.slotted_operations.proofs.Graphs.Continuations.{finds-on}
 use Rattle.slotted_operations.proofs.Additions.NewClasses.{adds-none, same-goes_on}
 use Rattle.slotted_operations.proofs.Graphs.Notes.{notes-none, notes-then}
 use Rattle.slotted_operations.proofs.Graphs.Images.{adds-then}
-use Rattle.slotted_operations.proofs.Terms.Layers.{Each-parts, child_smaller, each_at, length-parts, whole_count, whole_each}
+use Rattle.slotted_operations.proofs.TermsOverIds.Layers.{Each-parts, child_smaller, each_at, length-parts, whole_count, whole_each}
 use Rattle.slotted_operations.proofs.LookUps.Subterms.{look-names}
-use Rattle.slotted_operations.proofs.Terms.PlaceCounts.{Bounded, child_places_fit, free_fit, places_fit, size_fit}
+use Rattle.slotted_operations.proofs.TermsOverIds.PlaceCounts.{Bounded, child_places_fit, free_fit, places_fit, size_fit}
 
 -- what holds where a graph was reached by adding nodes
 pub record Reached (t : Table) (k : Kept) (r : Rows) (u : Table) (l : Kept) (q : Rows) : Type 0 where

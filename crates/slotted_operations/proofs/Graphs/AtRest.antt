@@ -11,7 +11,7 @@ use Rattle.slotted_unions.specs.Proving.{OnlyProves}
 use Rattle.slotted_unions.proofs.EnteredProofs.{only-state, entering-proves}
 use Rattle.slotted_rebuilding.specs.Counted.{CountsFit}
 use Rattle.slotted_hashcons.specs.WellFiled.{state_in}
-use Rattle.slotted_rebuilding.proofs.EnteredCongruences.{proved-well}
+use Rattle.slotted_rebuilding.proofs.CongruenceEntries.{proved-well}
 use Rattle.slotted_operations.specs.Good.{Good, RestsWith}
 
 pub at-rest : (k : Kept) (r : Rows) → Good k → RestsWith k r → AtRest (state_in k r)

@@ -2,12 +2,11 @@
 use Rattle.std.proofs.Common.{◌∙◌, ◌<◌, ℕ, length, sym, subst, inl, inr}
 use Rattle.std.specs.Prelude.{IsTrue, Contains, slice_index_or}
 use Rattle.std.proofs.lemmas.Bool.{lt-ltb, ltb-true}
-use Rattle.slotted_slots.specs.Table.{Table, is_known, fresh_slot, KnowsMore}
+use Rattle.slotted_slots.specs.Table.{Table, is_known, fresh_slot, KnowsMore, AllKnown}
 use Rattle.slotted_slots.proofs.TableLaws.{is_known-fresh_slot, is_known-numeric_slot}
 use Rattle.slotted_theory.specs.Nameless.{DTerm}
 use Rattle.slotted_model.specs.Ascending.{names}
 use Rattle.slotted_model.proofs.Data.Members.{Contains-In}
-use Rattle.slotted_terms.specs.Valid.{AllKnown}
 use Rattle.slotted_classes.specs.Kept.{Kept, node_at}
 use Rattle.slotted_operations.specs.Good.{Good, HasFreshSlots}
 use Rattle.slotted_operations.proofs.Ids.CanonicalTerms.{node_at-is}

@@ -8,7 +8,7 @@ use Rattle.slotted_model.specs.Find.{Entry, find_class, find_map, find}
 use Rattle.slotted_model.specs.Growth.{Extends}
 use Rattle.slotted_model.specs.ProofList.{ProofEntry}
 use Rattle.slotted_proofs.specs.Entries.{Proven}
-use Rattle.slotted_rebuilding.proofs.CountedRebuilds.{counts-then}
+use Rattle.slotted_rebuilding.proofs.RebuildCounts.{counts-then}
 use Rattle.slotted_operations.specs.Causes.{class_found}
 use Rattle.slotted_operations.specs.Image.{Image, AddsClasses, found_id}
 use Rattle.slotted_classes.specs.Kept.{Kept, SymmetryEntry, entries_of}

@@ -28,7 +28,7 @@ use Rattle.slotted_proofs.proofs.Entering.{entry-over, others_assert_nothing}
 use Rattle.slotted_proofs.proofs.Fitting.{reflexive_fits, symmetric_fits, transitive_fits, congruent_fits}
 use Rattle.slotted_proofs.proofs.Stepping.{matches-state, states-entry}
 use Rattle.slotted_operations.specs.Checks.{SaysIn, GoesBetween, IsCongruentStep, FitsBy, Fits, entry_by, Accepts}
-use Rattle.slotted_congruence.specs.Frames.{IsCongruentIn}
+use Rattle.slotted_rebuilding.specs.Frames.{IsCongruentIn}
 use Rattle.slotted_alike.proofs.Frames.{injective_before}
 use Rattle.slotted_operations.specs.Graph.{Graph}
 use Rattle.slotted_operations.specs.Image.{AreDerivable}

@@ -3,11 +3,10 @@ use Rattle.std.proofs.Common.{◌≡◌, ◌<◌, ◌≤◌, ◌+◌, ◌∙◌,
 use Rattle.std.specs.Prelude.{◌↔◌, Bool, Contains, IsTrue, nat_eq}
 use Rattle.std.specs.List.{filter, range_with_len}
 use Rattle.std.proofs.lemmas.Bool.{cases_Bool, eq-eqb, eqb-true, false≢true, lt-ltb, ne_eqb}
-use Rattle.slotted_slots.specs.Table.{Table, empty_table, is_known}
+use Rattle.slotted_slots.specs.Table.{Table, empty_table, is_known, AllKnown}
 use Rattle.slotted_slots.proofs.TableLaws.{is_known-fresh_slot}
 use Rattle.slotted_slots.specs.declared.types.Id.{Id}
 use Rattle.slotted_theory.specs.Nameless.{DTerm}
-use Rattle.slotted_terms.specs.Valid.{AllKnown}
 use Rattle.slotted_model.specs.Applied.{Applied, renamed_id, values}
 use Rattle.slotted_model.specs.Ascending.{ascending}
 use Rattle.slotted_model.specs.Correspondence.{composite, identity}

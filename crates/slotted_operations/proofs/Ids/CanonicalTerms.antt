@@ -24,12 +24,13 @@ use Rattle.slotted_model.proofs.Represented.Full.{term_of-layer, full-children}
 use Rattle.slotted_model.proofs.Data.Maps.{keys-with_values}
 use Rattle.slotted_classes.specs.Kept.{Kept, nodes_of, node_at}
 use Rattle.slotted_operations.specs.Nodes.{ids_in, child_ids}
-use Rattle.slotted_operations.specs.Canonical.{args_count, place_count, IsBeside}
+use Rattle.slotted_operations.specs.Canonical.{args_count, place_count}
+use Rattle.slotted_languages.specs.Beside.{IsBeside}
 use Rattle.slotted_operations.proofs.LookUps.Rows.{canonical_node-in}
 use Rattle.slotted_classes.proofs.NameMaps.{In-at, In-key, length-keys, length-values}
 use Rattle.slotted_classes.proofs.ChildIds.{Each, atom-is, length-ids, zip-keys_values}
-use Rattle.slotted_operations.proofs.Terms.Children.{plugs}
-use Rattle.slotted_operations.proofs.Terms.Layers.{expand-filled, match-from, each_at}
+use Rattle.slotted_operations.proofs.TermsOverIds.Children.{plugs}
+use Rattle.slotted_operations.proofs.TermsOverIds.Layers.{expand-filled, match-from, each_at}
 
 -- what holds of each child of the nameless form, and of an id where it holds of a renamed one, holds of each child
 

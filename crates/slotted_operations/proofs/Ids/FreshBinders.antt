@@ -16,7 +16,7 @@ use Rattle.slotted_theory.specs.Nameless.{DTerm}
 use Rattle.slotted_model.specs.Classes.{canonical_node}
 use Rattle.slotted_operations.specs.Canonical.{IsNodeOf, binder_count}
 use Rattle.slotted_operations.specs.Syn.{HasUnknownBinders, node_binders}
-use Rattle.slotted_operations.proofs.Terms.Binders.{args_binders-moved, binders_counted}
+use Rattle.slotted_operations.proofs.TermsOverIds.Binders.{args_binders-moved, binders_counted}
 
 -- two nodes that are one up to bound names have their binders at the same places
 module _ (b c : Form) (fits_b : Fits b) (fits_c : Fits c) (same : nameless_node c ≡ nameless_node b) where

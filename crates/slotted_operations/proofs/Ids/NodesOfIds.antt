@@ -8,7 +8,7 @@ use Rattle.slotted_theory.specs.Term.{Term}
 use Rattle.slotted_slots.specs.declared.error.Error.{Error}
 use Rattle.slotted_slots.specs.declared.error.Error.TheVariants.{OutOfSlots}
 use Rattle.slotted_slots.specs.Error.{IsOutOfMemory}
-use Rattle.slotted_slots.specs.Table.{Table, KnowsMore, TakesAtMost, is_known, slot_limit, unknown_names}
+use Rattle.slotted_slots.specs.Table.{Table, KnowsMore, TakesAtMost, is_known, slot_limit, unknown_names, AllKnown}
 use Rattle.slotted_slots.proofs.SlotsTaken.{at_most_known, fresh_goes_on, lacks_known}
 use Rattle.slotted_nodes.specs.Form.{Form, children, child_names, child_place, width}
 use Rattle.slotted_languages.specs.Children.{binders}
@@ -18,15 +18,16 @@ use Rattle.slotted_languages.specs.Shape.{Fits}
 use Rattle.slotted_languages.specs.Fresh.{RunsOut as RunsOutBeside}
 use Rattle.slotted_model.specs.Applied.{Applied}
 use Rattle.slotted_model.specs.Classes.{canonical_node, IsFull, Canonical}
-use Rattle.slotted_terms.specs.Valid.{AllKnown, IsValidTerm}
-use Rattle.slotted_operations.specs.Canonical.{args_count, place_count, IsBeside}
+use Rattle.slotted_terms.specs.Valid.{IsValidTerm}
+use Rattle.slotted_operations.specs.Canonical.{args_count, place_count}
+use Rattle.slotted_languages.specs.Beside.{IsBeside}
 use Rattle.slotted_operations.specs.Graph.{RunsOut}
 use Rattle.slotted_operations.specs.Nodes.{child_ids}
 use Rattle.slotted_operations.proofs.Ids.CanonicalTerms.{children-below, places-counted}
 use Rattle.slotted_classes.proofs.ChildIds.{length-ids}
 use Rattle.slotted_operations.proofs.LookUps.FoundNames.{In-take, In-drop}
 use Rattle.slotted_classes.proofs.NameMaps.{In-at, at_In}
-use Rattle.slotted_operations.proofs.Terms.ValidTerms.{valid_term}
+use Rattle.slotted_operations.proofs.TermsOverIds.ValidTerms.{valid_term}
 
 -- the children are full
 pub children-full : (nodes : List DTerm) → Canonical nodes → (a : Applied) → IsFull nodes a → (f : Form) → Fits f → nameless_node f ≡ moved (filled a.1) (canonical_node nodes a.0) → All (IsFull nodes) (child_ids f)

@@ -7,10 +7,9 @@ use Rattle.slotted_theory.specs.Nameless.{DTerm}
 use Rattle.slotted_theory.specs.Term.{Term}
 use Rattle.slotted_slots.specs.declared.types.AppliedId.{AppliedId}
 use Rattle.slotted_slots.specs.Maps.{values}
-use Rattle.slotted_slots.specs.Table.{KnowsMore, Table, is_known}
+use Rattle.slotted_slots.specs.Table.{KnowsMore, Table, is_known, AllKnown}
 use Rattle.slotted_nodes.specs.Form.{Form, Tree, leaf, own, child, bind, scopes, children}
 use Rattle.slotted_languages.specs.Filled.{term_of}
-use Rattle.slotted_terms.specs.Valid.{AllKnown}
 use Rattle.slotted_model.specs.Applied.{Applied}
 use Rattle.slotted_model.specs.Classes.{Canonical, IsFull}
 use Rattle.slotted_model.proofs.Data.Members.{In}
@@ -27,13 +26,13 @@ use Rattle.slotted_operations.specs.Opened.{IsGivenAs, IsOfTermOf, OpensId}
 use Rattle.slotted_operations.specs.Preorder.{HasEnough, built, over_last_of}
 use Rattle.slotted_operations.specs.Syn.{KnowsSlotsAnd, LacksForFullNode, LacksForFullTerm, MakesForNode, MakesForTerm, node_binders, term_binders}
 use Rattle.slotted_operations.proofs.Additions.IdStacks.{Both, Both-at, Both-length, Both-more}
-use Rattle.slotted_operations.proofs.Terms.Binders.{ids_binders, ids_binders-append, node_within, parts_counted}
+use Rattle.slotted_operations.proofs.TermsOverIds.Binders.{ids_binders, ids_binders-append, node_within, parts_counted}
 use Rattle.slotted_operations.proofs.Ids.CanonicalTerms.{canonical-term, node_at-is}
 use Rattle.slotted_operations.proofs.Graphs.FreshSlots.{fresh_slots-more}
 use Rattle.slotted_operations.proofs.Ids.NodesOfIds.{children-full, valid-beside}
 use Rattle.slotted_operations.proofs.LookUps.FoundNames.{In-drop, In-take}
-use Rattle.slotted_operations.proofs.Terms.LargeChildren.{large_child_part}
-use Rattle.slotted_operations.proofs.Terms.Preorders.{built-append, enough-append, over_last-seam}
+use Rattle.slotted_operations.proofs.TermsOverIds.LargeChildren.{large_child_part}
+use Rattle.slotted_operations.proofs.TermsOverIds.Preorders.{built-append, enough-append, over_last-seam}
 use Rattle.slotted_operations.proofs.Additions.Tables.{makes-more, makes-none, makes-then, runs_out-then}
 use Rattle.slotted_operations.proofs.Ids.NodeCounts.{children_nodes, ids_nodes, ids_nodes-append}
 

@@ -5,7 +5,7 @@ use Rattle.std.specs.List.{zip}
 use Rattle.std.specs.Map.{values_of}
 use Rattle.slotted_theory.specs.Renaming.{IsInjective}
 use Rattle.slotted_theory.proofs.Lists.{Contains-nil}
-use Rattle.slotted_slots.specs.Table.{is_known}
+use Rattle.slotted_slots.specs.Table.{is_known, AllKnown}
 use Rattle.slotted_nodes.specs.Form.{Form, children, child_place}
 use Rattle.slotted_languages.specs.NodeTerm.{nameless_node}
 use Rattle.slotted_languages.specs.Shape.{Fits}
@@ -17,7 +17,6 @@ use Rattle.slotted_model.proofs.Finds.Finding.{leads, find_map-partial}
 use Rattle.slotted_model.proofs.Data.Members.{In}
 use Rattle.slotted_model.proofs.Finds.NormalIds.{used-by, of_used}
 use Rattle.slotted_model.proofs.Represented.RenamedIds.{valid-renamed}
-use Rattle.slotted_terms.specs.Valid.{AllKnown}
 use Rattle.slotted_classes.specs.Finding.{IsFindable}
 use Rattle.slotted_classes.specs.Kept.{Kept, nodes_of, entries_of}
 use Rattle.slotted_classes.proofs.ChildIds.{Each-from_All, EachChild-node_args, child_with_keys, id_from, ids-at, length-ids}

@@ -5,12 +5,11 @@ use Rattle.slotted_theory.specs.Derives.{Equal}
 use Rattle.slotted_theory.specs.Nameless.{DTerm, nameless}
 use Rattle.slotted_theory.specs.Shape.{free_names}
 use Rattle.slotted_theory.proofs.Values.{node}
-use Rattle.slotted_slots.specs.Table.{is_known}
+use Rattle.slotted_slots.specs.Table.{is_known, AllKnown}
 use Rattle.slotted_slots.specs.declared.types.AppliedId.{AppliedId}
 use Rattle.slotted_nodes.specs.Form.{Form}
 use Rattle.slotted_languages.specs.NodeTerm.{nameless_node}
 use Rattle.slotted_languages.specs.Shape.{Fits}
-use Rattle.slotted_terms.specs.Valid.{AllKnown}
 use Rattle.slotted_model.specs.Applied.{Applied, EachChild, values}
 use Rattle.slotted_model.specs.Changes.{GoesOn}
 use Rattle.slotted_model.specs.Classes.{IsFull, term_of, layer_of}
@@ -36,7 +35,7 @@ use Rattle.slotted_proofs.specs.Equations.{to_applied}
 use Rattle.slotted_hashcons.specs.FiledRows.{Rows, rows_in}
 use Rattle.slotted_hashcons.specs.WellFiled.{state_in}
 use Rattle.slotted_lookup.specs.LookUp as adding
-use Rattle.slotted_lookup.proofs.FoundIds.{found-for}
+use Rattle.slotted_lookup.proofs.Finds.{found-for}
 use Rattle.slotted_operations.specs.Adding.{IsEqualToNode}
 use Rattle.slotted_operations.specs.ValidIds.{Fills, IsValidNode}
 use Rattle.slotted_operations.specs.Good.{Good, KeepsAnswers, RestsWith, image_of}

@@ -21,9 +21,9 @@ use Rattle.slotted_model.proofs.Data.Maps.{values-map_on, map_on-filled}
 use Rattle.slotted_model.proofs.Data.Theory.{free_names-moved}
 use Rattle.slotted_model.proofs.Represented.Full.{full-ascending, term_of-layer, term_of-names}
 use Rattle.slotted_model.proofs.Represented.Ids.{id_of_node-some}
-use Rattle.slotted_slots.specs.Table.{Table, is_known}
+use Rattle.slotted_slots.specs.Table.{Table, is_known, AllKnown}
 use Rattle.slotted_model.specs.Ascending.{names}
-use Rattle.slotted_terms.specs.Valid.{AllKnown, HasKnownNames}
+use Rattle.slotted_terms.specs.Valid.{HasKnownNames}
 use Rattle.slotted_classes.proofs.NameMaps.{In-at, at_In}
 
 pub In-take : (n : ℕ) (xs : List ℕ) (x : ℕ) → In x (take n xs) → In x xs

@@ -25,7 +25,7 @@ use Rattle.slotted_model.proofs.Data.Options.{Some-same}
 use Rattle.slotted_model.proofs.Data.Theory.{moved-agrees, moved-id}
 use Rattle.slotted_classes.proofs.ChildIds.{Each, atom-is, length-ids}
 use Rattle.slotted_operations.specs.Nodes.{ids_in}
-use Rattle.slotted_operations.proofs.Terms.Layers.{Each-parts, length-parts}
+use Rattle.slotted_operations.proofs.TermsOverIds.Layers.{Each-parts, length-parts}
 
 decide : (y : ℕ) (xs : List ℕ) → In y xs ⊎ (¬ In y xs)
 decide y [] = inr (λ h. h)

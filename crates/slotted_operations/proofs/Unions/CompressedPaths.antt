@@ -34,7 +34,7 @@ use Rattle.slotted_unions.proofs.KeptSlots.{grows-uncounted}
 use Rattle.slotted_rebuilding.specs.Causes.{HasLargeClass}
 use Rattle.slotted_rebuilding.specs.Counted.{CountsFit, CountsGo}
 use Rattle.slotted_hashcons.specs.WellFiled.{IsWellFiled, state_in}
-use Rattle.slotted_rebuilding.proofs.CountedRebuilds.{counts-same}
+use Rattle.slotted_rebuilding.proofs.RebuildCounts.{counts-same}
 use Rattle.slotted_rebuilding.proofs.FiledStates.{fits-grown, places-grown}
 use Rattle.slotted_operations.specs.Causes.{HasLargeClassIn, IsLargeClass, IsWideClass}
 use Rattle.slotted_operations.specs.Explaining.{Answers, ExplainsTerms, IsIdOfEither, ProvesIfAlike, RunsOutForTerms, large_graph, wide_left, wide_right}

@@ -17,7 +17,7 @@ use Rattle.slotted_unions.proofs.AlikeSides.{alike-identity}
 use Rattle.slotted_hashcons.specs.WellFiled.{IsWellFiled}
 use Rattle.slotted_rebuilding.specs.Filed.{UnitesFiled}
 use Rattle.slotted_rebuilding.specs.Turns.{Rebuilds}
-use Rattle.slotted_rebuilding.proofs.RebuiltGraphs.{all-noted}
+use Rattle.slotted_rebuilding.proofs.Rebuilds.{all-noted}
 use Rattle.slotted_operations.specs.Good.{with_rest_noted}
 use Rattle.slotted_operations.proofs.Unions.Assertions.{IsAsserted}
 

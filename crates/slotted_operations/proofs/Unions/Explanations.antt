@@ -26,7 +26,7 @@ use Rattle.slotted_unions.proofs.KeptSlots.{grows-uncounted}
 use Rattle.slotted_unions.proofs.EnteredProofs.{only-nodes, only-proofs, only-state, only-grows}
 use Rattle.slotted_hashcons.specs.WellFiled.{state_in}
 use Rattle.slotted_rebuilding.specs.Counted.{CountsGo}
-use Rattle.slotted_rebuilding.proofs.CountedRebuilds.{counts-same}
+use Rattle.slotted_rebuilding.proofs.RebuildCounts.{counts-same}
 use Rattle.slotted_operations.specs.Causes.{CanRunOutForTerm, IsUnknownTerm}
 use Rattle.slotted_operations.specs.Explaining.{AddsTerms, HasIds, ExplainsTerms, IsIdOfEither, ProvesIfAlike, RunsOutForTerms, no_slots, large_left, large_right, large_graph, wide_left, wide_right, large_class}
 use Rattle.slotted_operations.specs.Good.{Good, KeepsNotes, RestsWith, AddsTerm, image_of}

@@ -33,7 +33,7 @@ use Rattle.slotted_rebuilding.specs.Counted.{CountsFit, CountsGo, TotalsFit}
 use Rattle.slotted_hashcons.specs.WellFiled.{state_in, IsWellFiled}
 use Rattle.slotted_rebuilding.specs.Filed.{UnitesFiled}
 use Rattle.slotted_rebuilding.specs.Turns.{Rebuilds}
-use Rattle.slotted_rebuilding.proofs.CountedRebuilds.{rebuild-fits}
+use Rattle.slotted_rebuilding.proofs.RebuildCounts.{rebuild-fits}
 use Rattle.slotted_operations.specs.Causes.{HasLargeClassIn, HasLargeClassOf, class_found}
 use Rattle.slotted_operations.specs.Good.{Good, KeepsNotes, NeverMore, NotesLast, RestsWith, image_of}
 use Rattle.slotted_operations.specs.Image.{Asserts, AreTogether, Continues, FoundAlike, Records, SameNames, asserted_in, found_id, live_size}

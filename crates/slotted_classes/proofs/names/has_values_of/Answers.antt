@@ -14,14 +14,14 @@ returns-then-not-has_value c = (
       let xs = values c.args.map.now in
       let l : c.loop-i.i < length xs = omega (arith, length-values c.args.map.now, c.len-i-end.ensures.len, c.loop-i-test.true) in
       let e : slice_index_or xs c.loop-i.i 0 ≡ c.value_at.result = get_or_from_slice_get xs c.loop-i.i c.value_at.result 0 c.value_at.ensures in
-      absurd (false≢true (sym c.if-not-has_value.true ∙ c.has_value.ensures.1 (h c.value_at.result (Contains-In xs c.value_at.result (subst (λ x. In x xs) e (In-at xs c.loop-i.i 0 l)))))),
+      absurd (false≢true (sym c.if-not-has_value.true ∙ c.has_value.ensures.contains.1 (h c.value_at.result (Contains-In xs c.value_at.result (subst (λ x. In x xs) e (In-at xs c.loop-i.i 0 l)))))),
 )
 
 pub loop-i-preserved : goal.loop-i-preserved
 loop-i-preserved c =
     below_next (Contains (values c.args.other.now)) (values c.args.map.now) c.loop-i.i c.value_at.result
     (omega (arith, length-values c.args.map.now, c.len-i-end.ensures.len, c.loop-i-test.true)) c.value_at.ensures
-    (c.has_value.ensures.0 c.if-not-has_value.false) c.loop-i.invariant
+    (c.has_value.ensures.contains.0 c.if-not-has_value.false) c.loop-i.invariant
 
 pub returns : goal.returns
 returns c = (

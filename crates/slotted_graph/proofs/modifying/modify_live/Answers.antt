@@ -1,6 +1,6 @@
 use Rattle.std.proofs.Common.{◌∙◌, ap, length, nat_eq, subst, sym}
 use Rattle.std.specs.Prelude.{All, not, slice_index_or}
-use Rattle.slotted_terms.specs.Valid.{AllKnown}
+use Rattle.slotted_slots.specs.Table.{AllKnown}
 use Rattle.slotted_analyses.specs.Edits.{IsValidEdit}
 use Rattle.slotted_analyses.proofs.ValidEdits.{edit-valid}
 use Rattle.slotted_proofs.specs.Equations.{to_applied}

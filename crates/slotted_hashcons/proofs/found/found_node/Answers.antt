@@ -5,7 +5,7 @@ use Rattle.slotted_nodes.specs.Form.{Form}
 use Rattle.slotted_model.specs.Normal.{normal}
 use Rattle.slotted_classes.specs.Kept.{entries_of}
 use Rattle.slotted_hashcons.specs.NormalNodes.{HasFindableChildren}
-use Rattle.slotted_hashcons.proofs.CanonicalChildren.{node-is}
+use Rattle.slotted_classes.proofs.ClassNodes.{node-is}
 use Rattle.slotted_hashcons.proofs.ShapesOfNodes.{found_node}
 use Rattle.slotted_hashcons.proofs.found.found_node.Goals as goal
 

@@ -15,9 +15,11 @@ use Rattle.slotted_classes.specs.Kept.{Kept, nodes_of, entries_of}
 use Rattle.slotted_classes.specs.ChildIds.{child_ids}
 use Rattle.slotted_hashcons.specs.NormalNodes.{HasFindableChildren, HasNoOtherNames}
 use Rattle.slotted_classes.proofs.ChildIds.{child_is, length-ids}
+use Rattle.slotted_classes.proofs.KeptLists.{length-nodes_of}
+use Rattle.slotted_hashcons.proofs.FoundIds.{found-itself}
 use Rattle.slotted_hashcons.proofs.FoundChildren.{Each-at, child_ids-valid, found-nameless, found-no_other, found-places}
 use Rattle.slotted_hashcons.proofs.ReplacedChildren.{first_form-none, first_form-more, first_form-same, length_children-first}
-use Rattle.slotted_hashcons.proofs.normal.normal_of.Goals.{then-not-is_found+in_ok-found, else-not-is_found}
+use Rattle.slotted_hashcons.proofs.normal.normal_of.Goals.{then-not-is_canonical+in_ok-found, else-not-is_canonical}
 use Rattle.slotted_hashcons.proofs.normal.normal_of.Goals as goal
 
 pub loop-k-init : goal.loop-k-init
@@ -30,13 +32,15 @@ child-finds : (k : Kept) (f : Form) → Fits f → HasFindableChildren k f → (
 child-finds k f fits findable n a lt is =
     subst (IsFindable k) (sym is) (Each-at (IsFindable k) (child_ids f) n (0, []) (child_ids-valid (used_slots (entries_of k)) (nodes_of k) f fits findable) (omega (arith, lt, length-ids f.tree f.names)))
 
-pub is_found-requires-clause-findable : goal.is_found-requires-clause-findable
-is_found-requires-clause-findable g c =
+pub is_canonical-requires : goal.is_canonical-requires
+is_canonical-requires g c =
+    let k = c.args.store.now in
     let f = g.L.LanguageChildren.form c.args.node.now in
     let a : Applied = to_applied c.applied_id-child.result.now in
     let lt : c.loop-k.k < length (children f.tree) = omega (arith, c.loop-k-test.true, c.applied_id_count-k-end.ensures) in
-    child-finds c.args.store.now f (g.met.L.LanguageChildren.fits c.args.node.now) c.requires.children c.loop-k.k a lt
-    (child_is f c.loop-k.k (0, []) a lt c.applied_id-child.ensures.id c.applied_id-child.ensures.keys c.applied_id-child.ensures.names)
+    let finds : IsFindable k a = child-finds k f (g.met.L.LanguageChildren.fits c.args.node.now) c.requires.children c.loop-k.k a lt
+    (child_is f c.loop-k.k (0, []) a lt c.applied_id-child.ensures.id c.applied_id-child.ensures.keys c.applied_id-child.ensures.names) in
+    omega (arith, finds.in_range, length-nodes_of k)
 
 pub found_id-requires-clause-findable : goal.found_id-requires-clause-findable
 found_id-requires-clause-findable g c =
@@ -61,15 +65,17 @@ loop-k-preserved g c =
     let a : Applied = to_applied c.applied_id-child.result.now in
     let lt : c.loop-k.k < length (children f.tree) = omega (arith, c.loop-k-test.true, c.applied_id_count-k-end.ensures) in
     let is = child_is f c.loop-k.k (0, []) a lt c.applied_id-child.ensures.id c.applied_id-child.ensures.keys c.applied_id-child.ensures.names in
-    elim c.if-not-is_found.branch [
-      | then-not-is_found+in_ok-found w ↦
+    elim c.if-not-is_canonical.branch [
+      | then-not-is_canonical+in_ok-found w ↦
           let b : Applied = to_applied w.in_ok-found.found in
           ap form w.normal-is
           ∙ (w.set_applied_id.ensures
           ∙ (ap (λ h. with_child h c.loop-k.k b.0 (keys b.1) (values b.1)) c.loop-k.invariant
           ∙ first_form-more (find found) f c.loop-k.k b (0, []) lt fits (w.in_ok-found.ensures.ok ∙ ap (find found) is)))
-      | else-not-is_found w ↦
-          let same : find found a ≡ a = c.is_found.ensures.0 w.if-not-is_found.false in
+      | else-not-is_canonical w ↦
+          let finds : IsFindable c.args.store.now a = child-finds c.args.store.now f fits c.requires.children c.loop-k.k a lt is in
+          let all = c.is_canonical.ensures.0 w.if-not-is_canonical.false in
+          let same : find found a ≡ a = found-itself c.args.store.now c.requires.good a finds all.0 all.1 in
           ap form w.normal-is ∙ (c.loop-k.invariant ∙ first_form-same (find found) f c.loop-k.k (0, []) lt fits (sym is ∙ (sym same ∙ ap (find found) is)))
     ]
 

@@ -33,7 +33,7 @@ loop-slot-preserved g c =
     let used : IsInUse avoid vs f.names s =
     elim c.else-not-contains.branch [
       | else-not-contains-via-then-not-contains+then-not-has_value+else-not-has_name w ↦ inr (inr (sym w.has_name.ensures ∙ w.if-not-has_name.false))
-      | else-not-contains-via-then-not-contains+else-not-has_value w ↦ inr (inl (sym w.has_value.ensures ∙ w.if-not-has_value.false))
+      | else-not-contains-via-then-not-contains+else-not-has_value w ↦ inr (inl (sym w.has_value.ensures.is ∙ w.if-not-has_value.false))
       | else-not-contains-via-else-not-contains w ↦ inl (sym (has-is_among avoid s) ∙ (sym c.contains.ensures ∙ w.if-not-contains.false))
     ] in
     let hand = at_hand avoid c.args.names.now f in
@@ -77,7 +77,7 @@ pub returns-then-not-has_name-clause-node : goal.returns-then-not-has_name-claus
 returns-then-not-has_name-clause-node g c = sym c.has_name.ensures ∙ c.if-not-has_name.true
 
 pub returns-then-not-has_name-clause-names : goal.returns-then-not-has_name-clause-names
-returns-then-not-has_name-clause-names g c = sym c.has_value.ensures ∙ c.if-not-has_value.true
+returns-then-not-has_name-clause-names g c = sym c.has_value.ensures.is ∙ c.if-not-has_value.true
 
 pub returns-then-not-has_name-clause-avoid : goal.returns-then-not-has_name-clause-avoid
 returns-then-not-has_name-clause-avoid g c = sym (has-is_among c.args.avoid.now c.in_ok-slot.slot) ∙ (sym c.contains.ensures ∙ c.if-not-contains.true)

@@ -5,7 +5,7 @@ use Rattle.slotted_slots.specs.Maps.{composed}
 use Rattle.slotted_model.specs.Applied.{Applied}
 use Rattle.slotted_model.specs.Correspondence.{same_names}
 use Rattle.slotted_proofs.proofs.Bridges.{injective_differ, shared-model}
-use Rattle.slotted_lookup.proofs.FoundIds.{map-injective}
+use Rattle.slotted_lookup.proofs.Finds.{map-injective}
 use Rattle.slotted_least_terms.proofs.terms.term_entry.Goals as goal
 
 pub inverse-requires : goal.inverse-requires

@@ -5,7 +5,7 @@ use Rattle.slotted_slots.specs.Maps.{composed}
 use Rattle.slotted_model.specs.Applied.{Applied}
 use Rattle.slotted_model.specs.Correspondence.{composite, same_names}
 use Rattle.slotted_proofs.proofs.Bridges.{composed-model, injective_differ, shared-model}
-use Rattle.slotted_lookup.proofs.FoundIds.{map-injective}
+use Rattle.slotted_lookup.proofs.Finds.{map-injective}
 use Rattle.slotted_lookup.proofs.enodes.names_beside.Goals as goal
 
 pub inverse-requires : goal.inverse-requires

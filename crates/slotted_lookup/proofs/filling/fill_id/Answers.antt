@@ -12,9 +12,9 @@ use Rattle.slotted_classes.specs.Kept.{Kept, nodes_of, names_at, rows_from}
 use Rattle.slotted_classes.specs.Names.{between}
 use Rattle.slotted_classes.proofs.ChildIds.{zip-keys_values}
 use Rattle.slotted_classes.proofs.KeptLists.{length-nodes_of}
-use Rattle.slotted_hashcons.proofs.OwnIds.{has-row, own-map}
+use Rattle.slotted_classes.proofs.OwnIds.{has-row, own-map}
 use Rattle.slotted_lookup.specs.Filling.{FillsId, MakesAtMost, RunsOut, filled_id, lacked, missing, named, with_fresh}
-use Rattle.slotted_lookup.proofs.FilledIds.{Knows, all_known, filled-fills, filled-known, filled-whole, knows}
+use Rattle.slotted_lookup.proofs.IdFillings.{Knows, all_known, filled-fills, filled-known, filled-whole, knows}
 use Rattle.slotted_lookup.proofs.filling.fill_id.Goals as goal
 
 -- the map of a class's slots to themselves, with the names in their places

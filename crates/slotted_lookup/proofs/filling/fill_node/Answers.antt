@@ -10,9 +10,10 @@ use Rattle.slotted_classes.specs.Finding.{IsFindable}
 use Rattle.slotted_classes.specs.Kept.{Kept, nodes_of, entries_of}
 use Rattle.slotted_classes.proofs.ChildIds.{child_is, length-ids}
 use Rattle.slotted_hashcons.proofs.FoundChildren.{Each-at, child_ids-valid}
-use Rattle.slotted_lookup.specs.Filling.{FillsChildren, HasOneNormalForm, IsBeside, KeepsKnown, MakesFull, filled_id, filled_ids, missing, missing_in, missing_of, node_over, tree_over, with_fresh}
-use Rattle.slotted_lookup.proofs.FilledIds.{with_fresh-more}
-use Rattle.slotted_lookup.proofs.FilledChildren.{filled-more, length-filled, makes-after, missing-more, missing-within, node-fills, node-full, node-known, node-normal, node-whole, runs_out-after}
+use Rattle.slotted_lookup.specs.Filling.{FillsChildren, HasOneNormalForm, KeepsKnown, MakesFull, filled_id, filled_ids, missing, missing_in, missing_of, node_over, tree_over, with_fresh}
+use Rattle.slotted_languages.specs.Beside.{IsBeside}
+use Rattle.slotted_lookup.proofs.IdFillings.{with_fresh-more}
+use Rattle.slotted_lookup.proofs.ChildFillings.{filled-more, length-filled, makes-after, missing-more, missing-within, node-fills, node-full, node-known, node-normal, node-whole, runs_out-after}
 use Rattle.slotted_lookup.proofs.NodesOver.{beside-over, length-over, node_over-more, node_over-none}
 use Rattle.slotted_lookup.proofs.filling.fill_node.Goals as goal
 

@@ -1,7 +1,7 @@
 use Rattle.std.proofs.Common.{sym, subst}
 use Rattle.slotted_proofs.specs.Equations.{to_applied}
 use Rattle.slotted_lookup.specs.LookUp.{IsFoundFor}
-use Rattle.slotted_lookup.proofs.FoundIds.{found-for}
+use Rattle.slotted_lookup.proofs.Finds.{found-for}
 use Rattle.slotted_lookup.proofs.finding.find_applied_id.Goals as goal
 
 pub returns-clause-found : goal.returns-clause-found

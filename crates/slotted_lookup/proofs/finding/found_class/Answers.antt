@@ -6,8 +6,8 @@ use Rattle.slotted_model.specs.Find.{find_map}
 use Rattle.slotted_proofs.proofs.Bridges.{value_of-model}
 use Rattle.slotted_classes.specs.Kept.{entries_of}
 use Rattle.slotted_classes.proofs.KeptLists.{length-mapped}
-use Rattle.slotted_lookup.proofs.FoundIds.{found-keys, map-rises}
-use Rattle.slotted_lookup.proofs.FoundMaps.{all-found, key-found, next-found}
+use Rattle.slotted_lookup.proofs.Finds.{found-keys, map-rises}
+use Rattle.slotted_lookup.proofs.MapLoops.{all-found, key-found, next-found}
 use Rattle.slotted_lookup.proofs.finding.found_class.Goals.{in-Some+in_ok-insert, in_default}
 use Rattle.slotted_lookup.proofs.finding.found_class.Goals as goal
 

@@ -7,7 +7,7 @@ use Rattle.slotted_classes.specs.Names.{between}
 use Rattle.slotted_classes.proofs.StoredFinds.{stored-finds}
 use Rattle.slotted_hashcons.specs.WellFiled.{state_in}
 use Rattle.slotted_lookup.specs.LookUp.{slots_beside}
-use Rattle.slotted_lookup.proofs.LookedUpRows.{none-looked_up, numbers-are, some-looked_up}
+use Rattle.slotted_lookup.proofs.LookUpRows.{none-looked_up, numbers-are, some-looked_up}
 use Rattle.slotted_lookup.proofs.lookup.look_up.Goals as goal
 
 pub normal_shape-requires-clause-good : goal.normal_shape-requires-clause-good

@@ -6,7 +6,7 @@ use Rattle.slotted_model.specs.Find.{find_class}
 use Rattle.slotted_classes.specs.Kept.{entries_of}
 use Rattle.slotted_hashcons.specs.Filed.{filed_of}
 use Rattle.slotted_lookup.specs.Reports.{is_source}
-use Rattle.slotted_lookup.proofs.Reported.{next-fails, next-passes}
+use Rattle.slotted_lookup.proofs.ReportLists.{next-fails, next-passes}
 use Rattle.slotted_lookup.proofs.reports.class_nodes.Goals.{then-is_filed+then-find_class-class+in_ok-push, else-is_filed, else-is_filed-via-then-is_filed+else-find_class-class, else-is_filed-via-else-is_filed}
 use Rattle.slotted_lookup.proofs.reports.class_nodes.Goals as goal
 

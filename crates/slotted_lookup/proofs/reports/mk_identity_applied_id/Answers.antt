@@ -1,7 +1,7 @@
 use Rattle.std.proofs.Common.{◌∙◌, ap, sym, subst}
 use Rattle.slotted_model.specs.Correspondence.{identity}
 use Rattle.slotted_classes.specs.Finding.{IsFindable}
-use Rattle.slotted_lookup.proofs.FoundIds.{used-findable}
+use Rattle.slotted_lookup.proofs.Finds.{used-findable}
 use Rattle.slotted_lookup.proofs.reports.mk_identity_applied_id.Goals as goal
 
 pub returns-clause-ok : goal.returns-clause-ok

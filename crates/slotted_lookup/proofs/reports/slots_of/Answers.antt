@@ -1,7 +1,7 @@
 use Rattle.std.proofs.Common.{◌∙◌, ap}
 use Rattle.slotted_model.specs.Applied.{Applied, values}
 use Rattle.slotted_model.specs.Ascending.{ascending}
-use Rattle.slotted_lookup.proofs.Reported.{set_of-is}
+use Rattle.slotted_lookup.proofs.ReportLists.{set_of-is}
 use Rattle.slotted_lookup.proofs.reports.slots_of.Goals as goal
 
 pub returns-clause-ok : goal.returns-clause-ok

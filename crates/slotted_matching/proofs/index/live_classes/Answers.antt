@@ -3,7 +3,7 @@ use Rattle.std.proofs.lemmas.Bool.{eq-eqb, ne_eqb, false≢true}
 use Rattle.slotted_model.specs.Find.{entry_at}
 use Rattle.slotted_classes.specs.Kept.{entries_of}
 use Rattle.slotted_lookup.specs.Reports.{lives}
-use Rattle.slotted_lookup.proofs.Reported.{next-fails, next-passes}
+use Rattle.slotted_lookup.proofs.ReportLists.{next-fails, next-passes}
 use Rattle.slotted_matching.proofs.index.live_classes.Goals.{then-is_alive+in_ok-push, else-is_alive}
 use Rattle.slotted_matching.proofs.index.live_classes.Goals as goal
 

@@ -4,9 +4,9 @@ use Rattle.slotted_proofs.specs.Steps.{HasInjectiveSides}
 use Rattle.slotted_alike.specs.Frames.{AreAlikeForms}
 use Rattle.slotted_classes.specs.Kept.{nodes_of}
 use Rattle.slotted_proofs.specs.Equations.{to_applied}
-use Rattle.slotted_congruence.proofs.Naming.{congruent_again}
+use Rattle.slotted_rebuilding.proofs.Naming.{congruent_again}
 use Rattle.slotted_alike.proofs.WideNodes.{large_child}
-use Rattle.slotted_congruence.proofs.WideNodes.{wide_at}
+use Rattle.slotted_rebuilding.proofs.WideNodes.{wide_at}
 use Rattle.slotted_operations.proofs.checking.check_congruent.Goals as goal
 
 pub returns-in-Some-clause-refused : goal.returns-in-Some-clause-refused

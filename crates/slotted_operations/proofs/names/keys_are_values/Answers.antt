@@ -32,7 +32,7 @@ returns-then-not-has_value-clause-within c = (
   λ y. absurd (false≢true y),
   λ w.
       let vs = values c.args.slots.now in
-      absurd (false≢true (sym c.if-not-has_value.true ∙ c.has_value.ensures.1 (rest-within vs c.loop-slot.slot-iterator c.next.new.self c.in-Some.slot _ c.in-Some.ensures.steps (c.loop-slot.invariant.1 w)).0)),
+      absurd (false≢true (sym c.if-not-has_value.true ∙ c.has_value.ensures.contains.1 (rest-within vs c.loop-slot.slot-iterator c.next.new.self c.in-Some.slot _ c.in-Some.ensures.steps (c.loop-slot.invariant.1 w)).0)),
 )
 
 pub returns-then-not-has_value-clause-ascending : goal.returns-then-not-has_value-clause-ascending
@@ -41,7 +41,7 @@ returns-then-not-has_value-clause-ascending c = ascends (keys c.args.map.now) c.
 pub loop-slot-preserved : goal.loop-slot-preserved
 loop-slot-preserved c =
     let vs = values c.args.slots.now in
-    let h : Contains vs c.in-Some.slot = c.has_value.ensures.0 c.if-not-has_value.false in (
+    let h : Contains vs c.in-Some.slot = c.has_value.ensures.contains.0 c.if-not-has_value.false in (
       λ w. c.loop-slot.invariant.0 (next-within vs c.loop-slot.slot-iterator c.next.new.self c.in-Some.slot _ c.in-Some.ensures.steps h w),
       λ w. (rest-within vs c.loop-slot.slot-iterator c.next.new.self c.in-Some.slot _ c.in-Some.ensures.steps (c.loop-slot.invariant.1 w)).1,
     )

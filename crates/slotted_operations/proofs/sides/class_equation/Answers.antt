@@ -8,6 +8,7 @@ use Rattle.slotted_model.proofs.Correspondences.FullIds.{full_id}
 use Rattle.slotted_model.proofs.Represented.FillingEquations.{keys-identity}
 use Rattle.slotted_proofs.specs.Equations.{to_applied}
 use Rattle.slotted_classes.specs.Kept.{nodes_of, entries_of}
+use Rattle.slotted_classes.proofs.KeptLists.{length-nodes_of}
 use Rattle.slotted_classes.proofs.NameMaps.{length-keys}
 use Rattle.slotted_operations.proofs.Ids.MissingNames.{pairs-partial, pairs-turned}
 use Rattle.slotted_operations.proofs.Unions.WholeUnions.{large-slots}
@@ -16,6 +17,18 @@ use Rattle.slotted_operations.proofs.sides.class_equation.Goals as goal
 -- the slots of a class that is its own id
 own-keys : (i : ℕ) (S : List ℕ) (a : Applied) → a ≡ (i, identity S) → keys a.1 ≡ S
 own-keys i S a e = ap (λ (x : Applied). keys x.1) e ∙ keys-identity S
+
+pub own_id-left-requires-clause-rows : goal.own_id-left-requires-clause-rows
+own_id-left-requires-clause-rows g c = c.requires.good.rows
+
+pub own_id-left-requires-clause-within : goal.own_id-left-requires-clause-within
+own_id-left-requires-clause-within g c = omega (arith, c.requires.left.in_range, length-nodes_of c.args.store.now)
+
+pub own_id-right-requires-clause-rows : goal.own_id-right-requires-clause-rows
+own_id-right-requires-clause-rows g c = c.requires.good.rows
+
+pub own_id-right-requires-clause-within : goal.own_id-right-requires-clause-within
+own_id-right-requires-clause-within g c = omega (arith, c.requires.right.in_range, length-nodes_of c.args.store.now)
 
 pub equation_over-requires-clause-different : goal.equation_over-requires-clause-different
 equation_over-requires-clause-different g c = c.requires.left.injective

@@ -5,7 +5,7 @@ use Rattle.slotted_patterns.proofs.PieceTexts.{nothing}
 use Rattle.slotted_terms.specs.Flat.{flat_of}
 use Rattle.slotted_terms.proofs.FlatTrees.{flat_last, only_last}
 use Rattle.slotted_operations.specs.Preorder.{HasEnough, built, over_last_of}
-use Rattle.slotted_operations.proofs.Terms.Preorders.{enough-end}
+use Rattle.slotted_operations.proofs.TermsOverIds.Preorders.{enough-end}
 use Rattle.slotted_operations.proofs.stacks.assemble.Goals as goal
 
 pub over_first-requires : goal.over_first-requires

@@ -5,7 +5,7 @@ use Rattle.slotted_nodes.specs.Form.{Form, children}
 use Rattle.slotted_patterns.proofs.PatternCopies.{mapped_last}
 use Rattle.slotted_patterns.proofs.PieceTexts.{length_last}
 use Rattle.slotted_classes.proofs.ChildIds.{length-ids}
-use Rattle.slotted_operations.specs.Canonical.{IsBeside}
+use Rattle.slotted_languages.specs.Beside.{IsBeside}
 use Rattle.slotted_operations.specs.Nodes.{child_ids, to_applied}
 use Rattle.slotted_operations.proofs.Additions.IdStacks.{taken-more}
 use Rattle.slotted_operations.proofs.Ids.CanonicalTerms.{beside-itself, beside-step, child_set}

@@ -1,7 +1,7 @@
 -- The children from the place k on are the ids that were taken.
 use Rattle.std.proofs.Common.{◌≡◌, ◌≤◌, ◌++◌, drop, length, map}
 use Rattle.slotted_nodes.specs.Form.{children}
-use Rattle.slotted_operations.specs.Canonical.{IsBeside}
+use Rattle.slotted_languages.specs.Beside.{IsBeside}
 use Rattle.slotted_operations.specs.Nodes.{child_ids, to_applied}
 use Rattle.slotted_operations.proofs.stacks.over_last.Given as goal
 

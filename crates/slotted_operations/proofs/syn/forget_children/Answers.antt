@@ -1,6 +1,6 @@
 use Rattle.std.proofs.Common.{arith, sym, subst}
 use Rattle.slotted_nodes.specs.Form.{Form}
-use Rattle.slotted_operations.specs.Canonical.{IsBeside}
+use Rattle.slotted_languages.specs.Beside.{IsBeside}
 use Rattle.slotted_proofs.specs.Equations.{to_applied}
 use Rattle.slotted_operations.proofs.Ids.CanonicalTerms.{beside-itself, beside-step}
 use Rattle.slotted_operations.proofs.syn.forget_children.Goals as goal

@@ -1,5 +1,5 @@
 -- What stands beside the children stays.
-use Rattle.slotted_operations.specs.Canonical.{IsBeside}
+use Rattle.slotted_languages.specs.Beside.{IsBeside}
 use Rattle.slotted_operations.proofs.syn.forget_children.Given as goal
 
 abbrev pub invariant-loop-k : goal.invariant-loop-k

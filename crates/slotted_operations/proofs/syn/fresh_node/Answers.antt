@@ -3,13 +3,12 @@ use Rattle.std.proofs.Common.{◌≡◌, ◌∙◌, ◌*◌, ◌<◌, [], arith,
 use Rattle.std.specs.Prelude.{All, IsTrue}
 use Rattle.std.proofs.lemmas.List.Elements.{All-nil}
 use Rattle.std.proofs.lemmas.Result.{IfOk-weaker}
-use Rattle.slotted_slots.specs.Table.{is_known, slot_limit}
+use Rattle.slotted_slots.specs.Table.{is_known, slot_limit, AllKnown}
 use Rattle.slotted_languages.specs.NewNames.{BindersAreUnknown, PutsIn}
 use Rattle.slotted_languages.specs.NodeTerm.{nameless_node}
 use Rattle.slotted_languages.proofs.PutIn.{answer_is_known}
 use Rattle.slotted_languages.proofs.TakenNames.{both_ok}
 use Rattle.slotted_model.specs.Classes.{IsFull}
-use Rattle.slotted_terms.specs.Valid.{AllKnown}
 use Rattle.slotted_proofs.specs.Equations.{to_applied}
 use Rattle.slotted_classes.specs.Kept.{nodes_of}
 use Rattle.slotted_operations.specs.Good.{IsNodeOver}

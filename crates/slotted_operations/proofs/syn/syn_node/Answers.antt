@@ -3,7 +3,7 @@ use Rattle.std.proofs.Common.{◌<◌, ◌∙◌, ap, sym, subst, arith, length,
 use Rattle.std.specs.Prelude.{All}
 use Rattle.std.proofs.lemmas.Bool.{cases_lt}
 use Rattle.std.proofs.lemmas.Result.{IfOk-weaker}
-use Rattle.slotted_slots.specs.Table.{slot_limit}
+use Rattle.slotted_slots.specs.Table.{slot_limit, AllKnown}
 use Rattle.slotted_nodes.specs.Form.{Form, IsSmall}
 use Rattle.slotted_languages.specs.NodeTerm.{nameless_node}
 use Rattle.slotted_languages.proofs.PutIn.{answer_is_known}
@@ -11,13 +11,12 @@ use Rattle.slotted_slots.specs.Maps.{values}
 use Rattle.slotted_model.specs.Classes.{IsFull}
 use Rattle.slotted_theory.specs.FiniteMaps.{filled}
 use Rattle.slotted_theory.specs.Nameless.{moved}
-use Rattle.slotted_terms.specs.Valid.{AllKnown}
 use Rattle.slotted_operations.specs.Canonical.{binder_count, place_count}
 use Rattle.slotted_classes.specs.Kept.{nodes_of}
 use Rattle.slotted_operations.specs.Nodes.{child_ids}
 use Rattle.slotted_proofs.specs.Equations.{to_applied}
 use Rattle.slotted_operations.specs.Syn.{KnowsSlotsAnd, node_binders}
-use Rattle.slotted_operations.proofs.Terms.Binders.{binders_counted}
+use Rattle.slotted_operations.proofs.TermsOverIds.Binders.{binders_counted}
 use Rattle.slotted_operations.proofs.Graphs.FreshSlots.{stored-known}
 use Rattle.slotted_operations.proofs.Ids.NodesOfIds.{children-full, given-size, made-by_binders, lacked-by_binders, err-no_ok}
 use Rattle.slotted_classes.proofs.KeptLists.{length-nodes_of}

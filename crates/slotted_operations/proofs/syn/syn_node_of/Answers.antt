@@ -3,7 +3,7 @@ use Rattle.std.proofs.Common.{◌≡◌, ap, subst, arith, inl, inr, rules}
 use Rattle.std.specs.Prelude.{All}
 use Rattle.slotted_nodes.specs.Form.{IsSmall}
 use Rattle.slotted_languages.proofs.TakenNames.{both_ok}
-use Rattle.slotted_terms.specs.Valid.{AllKnown}
+use Rattle.slotted_slots.specs.Table.{AllKnown}
 use Rattle.slotted_model.specs.Applied.{Applied}
 use Rattle.slotted_model.specs.Classes.{IsFull}
 use Rattle.slotted_proofs.specs.Equations.{to_applied}

@@ -9,7 +9,7 @@ use Rattle.slotted_patterns.proofs.PatternCopies.{mapped_last}
 use Rattle.slotted_patterns.proofs.PieceTexts.{nothing}
 use Rattle.slotted_operations.specs.Nodes.{IsValidOver}
 use Rattle.slotted_operations.specs.SmallNodes.{IsSmallValidTerm, IsTermOver, total_size}
-use Rattle.slotted_operations.proofs.Terms.TermSizes.{all-before, over-exact, over-valid, total_size-append, total_size-at, total_size-take, total_size-under, under-exact}
+use Rattle.slotted_operations.proofs.TermsOverIds.TermSizes.{all-before, over-exact, over-valid, total_size-append, total_size-at, total_size-take, total_size-under, under-exact}
 use Rattle.slotted_operations.proofs.terms.+valid.Goals as goal
 
 pub is_valid_term-returns-then-not-is_node_over-clause-exact : goal.is_valid_term-returns-then-not-is_node_over-clause-exact

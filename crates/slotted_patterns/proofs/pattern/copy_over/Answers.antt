@@ -1,4 +1,4 @@
-use Rattle.std.proofs.Common.{◌≡◌, ◌-◌, length, map, sym, ap, ◌∙◌, arith}
+use Rattle.std.proofs.Common.{◌≡◌, ◌-◌, length, map, ap, ◌∙◌, arith}
 use Rattle.slotted_patterns.specs.View.{tree_of}
 use Rattle.slotted_patterns.proofs.PatternCopies.{node-before, node-below, node-few, three-few, three-ok, three-rest}
 use Rattle.slotted_patterns.proofs.PatternTrees.{same_node}

@@ -1,7 +1,9 @@
-use Rattle.std.proofs.Common.{◌≡◌, ◌++◌, ◌∷◌, [], map, sym, ap, ◌∙◌}
+use Rattle.std.proofs.Common.{◌++◌, ◌∷◌, [], map, sym, ap, ◌∙◌}
+use Rattle.slotted_patterns.specs.Shape.{shape}
 use Rattle.slotted_patterns.specs.View.{tree_of}
 use Rattle.slotted_patterns.proofs.PatternCopies.{mapped_three, parts-ENode, parts-Subst}
 use Rattle.slotted_patterns.proofs.PieceTexts.{on_ok}
+use Rattle.slotted_patterns.proofs.Shapes.{shape_parts-ENode, shape_parts-Subst}
 use Rattle.slotted_patterns.proofs.pattern.push_parts.Goals as goal
 
 pub returns-in-ENode-clause-ok : goal.returns-in-ENode-clause-ok
@@ -19,3 +21,16 @@ returns-in_ok-push-in-Subst-3-clause-ok g c =
     pushed
     ∙ ((λ i. map (λ p. tree p.now) old ++ (tree (c.deref-in-Subst.ensures i) ∷ tree (c.deref-in-Subst-2.ensures i) ∷ tree (c.deref-in-Subst-3.ensures i) ∷ []))
     ∙ ap (λ l. map (λ p. tree p.now) old ++ l) (sym (parts-Subst form c.args.pattern.now c.in-Subst.body c.in-Subst.place c.in-Subst.value c.in-Subst.is)))
+
+pub returns-in-ENode-clause-shapes : goal.returns-in-ENode-clause-shapes
+returns-in-ENode-clause-shapes g c =
+    let parts-are = ap (map shape) c.deref.ensures.value ∙ sym (shape_parts-ENode c.args.pattern.now c.in-ENode.field-0 c.in-ENode.children c.in-ENode.is) in
+    on_ok c.push_all.result (λ s. s ∙ ap (λ l. map (λ p. shape p.now) c.args.left.now.items ++ l) parts-are) c.push_all.ensures.shapes
+
+pub returns-in_ok-push-in-Subst-3-clause-shapes : goal.returns-in_ok-push-in-Subst-3-clause-shapes
+returns-in_ok-push-in-Subst-3-clause-shapes g c =
+    let old = c.args.left.now.items in
+    let pushed = mapped_three (λ p. shape p.now) old c.push.new.self.items c.push-in-Subst.new.self.items c.push-in-Subst-2.new.self.items c.deref-in-Subst.result c.deref-in-Subst-2.result c.deref-in-Subst-3.result c.in_ok-push-in-Subst.ensures.items c.in_ok-push-in-Subst-2.ensures.items c.in_ok-push-in-Subst-3.ensures.items in
+    pushed
+    ∙ ((λ i. map (λ p. shape p.now) old ++ (shape (c.deref-in-Subst.ensures i) ∷ shape (c.deref-in-Subst-2.ensures i) ∷ shape (c.deref-in-Subst-3.ensures i) ∷ []))
+    ∙ ap (λ l. map (λ p. shape p.now) old ++ l) (sym (shape_parts-Subst c.args.pattern.now c.in-Subst.body c.in-Subst.place c.in-Subst.value c.in-Subst.is)))

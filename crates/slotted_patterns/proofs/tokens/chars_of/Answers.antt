@@ -1,4 +1,4 @@
-use Rattle.std.proofs.Common.{◌∙◌, ◌++◌, ap, sym, rules}
+use Rattle.std.proofs.Common.{◌∙◌, ◌++◌, ap, rules}
 use Rattle.std.proofs.lemmas.Str.{Chars-Drains, encodes-chars}
 use Rattle.std.specs.Str.{chars}
 use Rattle.slotted_patterns.proofs.tokens.chars_of.Goals as goal

@@ -5,7 +5,7 @@ use Rattle.slotted_classes.proofs.StoredFinds.{stored-finds}
 use Rattle.slotted_rebuilding.specs.Turns.{NarrowsTo}
 use Rattle.slotted_rebuilding.proofs.FiledStates.{first-still}
 use Rattle.slotted_rebuilding.proofs.LargeClasses.{large-grown, same-error}
-use Rattle.slotted_rebuilding.proofs.NarrowedNodes.{first-waits, lacks-slot, narrowed-now, narrowed-then, waiting-within}
+use Rattle.slotted_rebuilding.proofs.NormalNodes.{first-waits, lacks-slot, narrowed-now, narrowed-then, waiting-within}
 use Rattle.slotted_rebuilding.proofs.narrowing.+narrowed.Goals as goal
 
 pub is_covered-requires-clause-good : goal.is_covered-requires-clause-good

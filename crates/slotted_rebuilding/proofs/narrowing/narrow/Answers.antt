@@ -1,9 +1,9 @@
 use Rattle.indexmap.proofs.MapLemmas.{OnOk-map}
 use Rattle.slotted_rebuilding.specs.Filed.{UnitesFiled}
 use Rattle.slotted_rebuilding.specs.Turns.{NarrowsOnce}
-use Rattle.slotted_rebuilding.proofs.EnteredCongruences.{narrowed-once, proved-count, proved-large, proved-within}
+use Rattle.slotted_rebuilding.proofs.CongruenceEntries.{narrowed-once, proved-count, proved-large, proved-within}
 use Rattle.slotted_rebuilding.proofs.LargeClasses.{same-error}
-use Rattle.slotted_rebuilding.proofs.NarrowedNodes.{first-waits, waiting-within}
+use Rattle.slotted_rebuilding.proofs.NormalNodes.{first-waits, waiting-within}
 use Rattle.slotted_rebuilding.proofs.narrowing.narrow.Goals as goal
 
 pub twin_proof-requires-clause-left : goal.twin_proof-requires-clause-left

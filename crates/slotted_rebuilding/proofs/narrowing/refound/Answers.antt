@@ -4,7 +4,7 @@ use Rattle.std.specs.Prelude.{option_map}
 use Rattle.std.proofs.lemmas.Option.{none-some}
 use Rattle.std.proofs.lemmas.Result.{IfOk-weaker}
 use Rattle.slotted_hashcons.specs.FoundNodes.{FilesNode, IsFoundNode}
-use Rattle.slotted_rebuilding.proofs.NarrowedNodes.{filed-files, filed-find, first-filed, first-waits, key-large, waiting-within}
+use Rattle.slotted_rebuilding.proofs.NormalNodes.{filed-files, filed-find, first-filed, first-waits, key-large, waiting-within}
 use Rattle.slotted_rebuilding.proofs.narrowing.refound.Goals as goal
 
 pub refound_node-requires-clause-children : goal.refound_node-requires-clause-children

@@ -1,8 +1,8 @@
 use Rattle.std.proofs.lemmas.Result.{IfOk-weaker}
-use Rattle.slotted_congruence.specs.Congruence.{ProvesTwins}
+use Rattle.slotted_rebuilding.specs.Congruence.{ProvesTwins}
 use Rattle.slotted_rebuilding.specs.Turns.{ProvesCongruence}
 use Rattle.slotted_rebuilding.proofs.LargeClasses.{large-either, same-error, twins-large}
-use Rattle.slotted_rebuilding.proofs.NarrowedNodes.{are-twins, twins-proved}
+use Rattle.slotted_rebuilding.proofs.NormalNodes.{are-twins, twins-proved}
 use Rattle.slotted_rebuilding.proofs.narrowing.twin_proof.Goals as goal
 
 pub returns-in_err-equation-clause-full : goal.returns-in_err-equation-clause-full

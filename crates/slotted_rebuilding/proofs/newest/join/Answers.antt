@@ -1,7 +1,7 @@
 use Rattle.indexmap.proofs.MapLemmas.{OnOk-map}
 use Rattle.slotted_rebuilding.specs.Filed.{UnitesFiled}
 use Rattle.slotted_rebuilding.specs.NewClasses.{BeginsAdding}
-use Rattle.slotted_rebuilding.proofs.EnteredCongruences.{proved-count, proved-large, proved-within}
+use Rattle.slotted_rebuilding.proofs.CongruenceEntries.{proved-count, proved-large, proved-within}
 use Rattle.slotted_rebuilding.proofs.LargeClasses.{same-error}
 use Rattle.slotted_rebuilding.proofs.NewestClasses.{joined, newest-within}
 use Rattle.slotted_rebuilding.proofs.newest.join.Goals as goal

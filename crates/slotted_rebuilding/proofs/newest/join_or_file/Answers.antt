@@ -3,7 +3,7 @@ use Rattle.std.specs.Prelude.{IfNone, IfSome}
 use Rattle.slotted_hashcons.specs.Filed.{HasKey, IsNewKey}
 use Rattle.slotted_proofs.proofs.Refusals.{slots_left}
 use Rattle.slotted_rebuilding.proofs.LargeClasses.{same-error}
-use Rattle.slotted_rebuilding.proofs.NarrowedNodes.{findable, too-large}
+use Rattle.slotted_rebuilding.proofs.NormalNodes.{findable, too-large}
 use Rattle.slotted_rebuilding.proofs.NewestClasses.{newest-within}
 use Rattle.slotted_rebuilding.proofs.newest.join_or_file.Goals as goal
 

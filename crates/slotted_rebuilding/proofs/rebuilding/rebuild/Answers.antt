@@ -1,7 +1,7 @@
 use Rattle.std.proofs.Common.{◌∙◌}
 use Rattle.slotted_classes.specs.Counts.{noted}
 use Rattle.slotted_classes.specs.Kept.{size_of, with_counts}
-use Rattle.slotted_rebuilding.proofs.RebuiltGraphs.{all-noted}
+use Rattle.slotted_rebuilding.proofs.Rebuilds.{all-noted}
 use Rattle.slotted_rebuilding.proofs.rebuilding.rebuild.Goals as goal
 
 pub returns-clause-ok : goal.returns-clause-ok

@@ -5,7 +5,7 @@ use Rattle.slotted_unions.specs.Settling.{IsUnaligned, AreAligned}
 use Rattle.slotted_unions.proofs.SettlingSteps.{unaligned-within, unaligned-large, act-smaller, act-large}
 use Rattle.slotted_rebuilding.specs.Filed.{SettlesFiled}
 use Rattle.slotted_rebuilding.proofs.LargeClasses.{had-slots, same-error}
-use Rattle.slotted_rebuilding.proofs.SettledRows.{settled-filed, found-aligned, acted-well, acted-then}
+use Rattle.slotted_rebuilding.proofs.SymmetryActs.{settled-filed, found-aligned, acted-well, acted-then}
 use Rattle.slotted_rebuilding.proofs.settling.+settle_all.Goals as goal
 
 pub returns-then-not-is_dropped-clause-ok : goal.returns-then-not-is_dropped-clause-ok

@@ -4,11 +4,11 @@ use Rattle.slotted_classes.proofs.StoredFinds.{stored-finds}
 use Rattle.slotted_rebuilding.specs.Filed.{UnitesFiled}
 use Rattle.slotted_rebuilding.specs.Turns.{IsFirst}
 use Rattle.slotted_rebuilding.proofs.Collisions.{found-shape}
-use Rattle.slotted_rebuilding.proofs.EnteredCongruences.{proved-count, proved-large, proved-within}
+use Rattle.slotted_rebuilding.proofs.CongruenceEntries.{proved-count, proved-large, proved-within}
 use Rattle.slotted_rebuilding.proofs.FiledStates.{first-still}
 use Rattle.slotted_rebuilding.proofs.LargeClasses.{same-error}
-use Rattle.slotted_rebuilding.proofs.NarrowedNodes.{first-waits, waiting-within}
-use Rattle.slotted_rebuilding.proofs.TakenTurns.{collides}
+use Rattle.slotted_rebuilding.proofs.NormalNodes.{first-waits, waiting-within}
+use Rattle.slotted_rebuilding.proofs.TurnEnds.{collides}
 use Rattle.slotted_rebuilding.proofs.turning.collide.Goals as goal
 
 pub find_class-owner-requires-clause-good : goal.find_class-owner-requires-clause-good

@@ -5,7 +5,7 @@ use Rattle.slotted_rebuilding.specs.Turns.{TakesTurns}
 use Rattle.slotted_rebuilding.proofs.FiledStates.{first-still}
 use Rattle.slotted_proofs.proofs.Refusals.{slots_left}
 use Rattle.slotted_rebuilding.proofs.LargeClasses.{large-grown, same-error}
-use Rattle.slotted_rebuilding.proofs.NarrowedNodes.{first-waits, waiting-within}
+use Rattle.slotted_rebuilding.proofs.NormalNodes.{first-waits, waiting-within}
 use Rattle.slotted_rebuilding.proofs.Collisions.{children-within, files-it, new-to-others, other-has, turns-then}
 use Rattle.slotted_rebuilding.proofs.turning.take_turn.Goals as goal
 

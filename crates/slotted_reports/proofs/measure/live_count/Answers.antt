@@ -5,8 +5,8 @@ use Rattle.std.specs.Prelude.{length}
 use Rattle.slotted_model.specs.Find.{entry_at}
 use Rattle.slotted_classes.specs.Kept.{entries_of}
 use Rattle.slotted_lookup.specs.Reports.{lives}
-use Rattle.slotted_lookup.proofs.Reported.{next-fails}
-use Rattle.slotted_reports.proofs.Measured.{counts-one}
+use Rattle.slotted_lookup.proofs.ReportLists.{next-fails}
+use Rattle.slotted_reports.proofs.Counts.{counts-one}
 use Rattle.slotted_reports.proofs.measure.live_count.Goals.{then-is_alive, else-is_alive}
 use Rattle.slotted_reports.proofs.measure.live_count.Goals as goal
 

@@ -9,9 +9,9 @@ use Rattle.slotted_model.specs.Find.{Entry, entry_at}
 use Rattle.slotted_classes.specs.Kept.{entries_of}
 use Rattle.slotted_classes.proofs.KeptLists.{entry_at-of}
 use Rattle.slotted_lookup.specs.Reports.{lives}
-use Rattle.slotted_lookup.proofs.Reported.{next-fails}
+use Rattle.slotted_lookup.proofs.ReportLists.{next-fails}
 use Rattle.slotted_reports.specs.Measure.{entry_slots}
-use Rattle.slotted_reports.proofs.Measured.{counts-more, sums-one}
+use Rattle.slotted_reports.proofs.Counts.{counts-more, sums-one}
 use Rattle.slotted_reports.proofs.measure.slot_count.Goals.{then-is_alive, else-is_alive}
 use Rattle.slotted_reports.proofs.measure.slot_count.Goals as goal
 

@@ -4,7 +4,7 @@ use Rattle.std.specs.Ordering.{nat_cmp}
 use Rattle.std.specs.List.Sorted.{IsPermutation}
 use Rattle.std.proofs.lemmas.List.Sorted.{All-permutation, IsPermutation-map}
 use Rattle.slotted_reports.specs.Nodes.{HasKeyOf, key_at}
-use Rattle.slotted_reports.proofs.Sorted.{firsts-sorted, keys-are}
+use Rattle.slotted_reports.proofs.KeyOrder.{firsts-sorted, keys-are}
 use Rattle.slotted_reports.proofs.nodes.in_order.Goals as goal
 
 pub returns-clause-same : goal.returns-clause-same

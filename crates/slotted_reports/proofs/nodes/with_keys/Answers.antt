@@ -3,7 +3,7 @@ use Rattle.std.proofs.Common.{◌<◌, ◌∙◌, ◌++◌, ◌∷◌, [], Vec, 
 use Rattle.std.specs.Prelude.{All, option_map}
 use Rattle.std.proofs.lemmas.List.{map-append, take_more}
 use Rattle.std.proofs.lemmas.List.Elements.{All-push}
-use Rattle.slotted_reports.proofs.Sorted.{none-some}
+use Rattle.slotted_reports.proofs.KeyOrder.{none-some}
 use Rattle.slotted_reports.specs.Nodes.{HasKeyOf}
 use Rattle.slotted_reports.proofs.nodes.with_keys.Goals.{in-Some+in_ok-push, in_default}
 use Rattle.slotted_reports.proofs.nodes.with_keys.Goals as goal

@@ -1,9 +1,8 @@
 use Rattle.std.proofs.Common.{◌∙◌, false, ap, arith, refl, rules, sym, subst, inl, inr}
 use Rattle.std.proofs.lemmas.Bool.{false≢true}
-use Rattle.slotted_slots.specs.Table.{Table}
+use Rattle.slotted_slots.specs.Table.{Table, AllKnown}
 use Rattle.slotted_proofs.specs.Equations.{to_applied}
 use Rattle.slotted_hashcons.specs.FiledRows.{rows_in}
-use Rattle.slotted_terms.specs.Valid.{AllKnown}
 use Rattle.slotted_operations.specs.ValidIds.{IsValidNode}
 use Rattle.slotted_data.specs.Part.{part_by}
 use Rattle.slotted_operations.specs.Good.{graph_of}

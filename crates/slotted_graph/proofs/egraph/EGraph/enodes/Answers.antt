@@ -8,7 +8,7 @@ use Rattle.slotted_model.specs.Find.{used_slots}
 use Rattle.slotted_model.proofs.Finds.NormalIds.{values-identity}
 use Rattle.slotted_proofs.specs.Equations.{to_applied}
 use Rattle.slotted_classes.specs.Kept.{entries_of}
-use Rattle.slotted_terms.specs.Valid.{AllKnown}
+use Rattle.slotted_slots.specs.Table.{AllKnown}
 use Rattle.slotted_lookup.specs.Enodes.{HasNamesOrNumbers}
 use Rattle.slotted_lookup.specs.Reports.{class_sources}
 use Rattle.slotted_reports.specs.Nodes.{AreClassNodes, HasLargeKeyOf}

@@ -1,8 +1,7 @@
 use Rattle.std.proofs.Common.{◌∙◌, ap, refl, subst, sym, inl, inr}
 use Rattle.std.proofs.lemmas.Bool.{false≢true}
 use Rattle.std.proofs.lemmas.Result.{IfOk-weaker}
-use Rattle.slotted_slots.specs.Table.{Table}
-use Rattle.slotted_terms.specs.Valid.{AllKnown}
+use Rattle.slotted_slots.specs.Table.{Table, AllKnown}
 use Rattle.slotted_model.specs.Applied.{values}
 use Rattle.slotted_proofs.specs.Equations.{to_applied}
 use Rattle.slotted_operations.specs.Graph.{Graph, MakesAtMost}

@@ -1,8 +1,7 @@
 use Rattle.std.proofs.Common.{◌≡◌, ◌∙◌, false, true, ap, sym, subst, inl, inr}
 use Rattle.std.specs.Prelude.{not}
 use Rattle.std.proofs.lemmas.Bool.{false≢true}
-use Rattle.slotted_slots.specs.Table.{Table}
-use Rattle.slotted_terms.specs.Valid.{AllKnown}
+use Rattle.slotted_slots.specs.Table.{Table, AllKnown}
 use Rattle.slotted_operations.specs.Good.{Good, image_of}
 use Rattle.slotted_operations.specs.Graph.{Graph}
 use Rattle.slotted_operations.proofs.Ids.ValidIds.{node-children_find, node-children_valid}

@@ -1,7 +1,7 @@
 use Rattle.std.proofs.Common.{◌<◌, ◌∙◌, length, sym, subst, inl, inr}
 use Rattle.std.proofs.lemmas.Bool.{false≢true}
 use Rattle.slotted_model.specs.Applied.{Applied, values}
-use Rattle.slotted_terms.specs.Valid.{AllKnown}
+use Rattle.slotted_slots.specs.Table.{AllKnown}
 use Rattle.slotted_operations.specs.Good.{HasFreshSlots}
 use Rattle.slotted_operations.specs.Graph.{Graph}
 use Rattle.slotted_operations.proofs.Ids.ValidIds.{to-valid}

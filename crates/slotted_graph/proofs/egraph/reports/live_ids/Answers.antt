@@ -4,7 +4,7 @@ use Rattle.std.proofs.lemmas.Bool.{eq-eqb, ne_eqb, false≢true}
 use Rattle.slotted_model.specs.Find.{entry_at}
 use Rattle.slotted_classes.specs.Kept.{entries_of}
 use Rattle.slotted_lookup.specs.Reports.{lives}
-use Rattle.slotted_lookup.proofs.Reported.{next-fails, next-passes}
+use Rattle.slotted_lookup.proofs.ReportLists.{next-fails, next-passes}
 use Rattle.slotted_operations.specs.Reports.{class_numbers}
 use Rattle.slotted_operations.proofs.Graphs.Reports.{numbers-then}
 use Rattle.slotted_graph.proofs.egraph.reports.live_ids.Goals.{then-is_alive+in_ok-push, else-is_alive}

@@ -3,7 +3,7 @@ use Rattle.std.specs.Prelude.{IfOk, IsErrOf}
 use Rattle.slotted_slots.specs.declared.error.Error.TheVariants.{BadStep}
 use Rattle.std.proofs.lemmas.Bool.{false≢true}
 use Rattle.slotted_model.specs.ProofList.{congruent}
-use Rattle.slotted_congruence.specs.Frames.{IsCongruentIn}
+use Rattle.slotted_rebuilding.specs.Frames.{IsCongruentIn}
 use Rattle.slotted_operations.specs.Good.{Good, RestsWith, HasFreshSlots}
 use Rattle.slotted_classes.specs.Kept.{EntersIn, nodes_of}
 use Rattle.slotted_proofs.specs.Equations.{statement_of}

@@ -1,6 +1,0 @@
-use Rattle.slotted_congruence.proofs.BridgedParts.{ProvesFirst}
-use Rattle.slotted_congruence.proofs.twins.bridges.Given as goal
-
--- the equations so far are proved
-abbrev pub invariant-loop-equation : goal.invariant-loop-equation
-invariant-loop-equation g l = ProvesFirst l.fn.store l.store l.equations l.equation-index l.parts.items
