@@ -77,7 +77,8 @@ fn put_last<L: Language, N: Analysis<L>, M: OwnSubst<L, N>>(
     }
 }
 
-// Returns the id of an instance of the pattern over those of its parts. These are the last ids of the list, and are taken from it.
+// Returns the id of an instance of the pattern over those of its parts. These are the last ids of the list, and are
+// taken from it.
 fn build_over<L: Language, N: Analysis<L>, M: OwnSubst<L, N>>(
     alloc: Global,
     graph: &mut EGraph<L, N>,

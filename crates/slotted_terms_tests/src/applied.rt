@@ -1,9 +1,9 @@
-//! The calls on applied ids, and what they answer.
+//! The calls on applied ids, and their answers.
 use crate::writing::{write_set, write_shown};
 use slotted_slots::{AppliedId, Error, Id, Slot, SlotMap, SlotTable};
 use std::alloc::Global;
 
-// The same class with the same map, no slot twice.
+// Returns the same class with the same map, if no slot stands there twice.
 fn made_new(alloc: Global, applied: &AppliedId) -> Result<AppliedId, Error> {
     if !applied.m.is_bijection() {
         return Err(Error::NotEqual);
@@ -11,7 +11,7 @@ fn made_new(alloc: Global, applied: &AppliedId) -> Result<AppliedId, Error> {
     Ok(AppliedId::new(applied.id, applied.m.copy(alloc)?))
 }
 
-// A copy with `$4` for its only slot.
+// Returns a copy with `$4` for its only slot.
 fn four_put_in(alloc: Global, applied: &AppliedId) -> Result<AppliedId, Error> {
     let mut copy = applied.copy(alloc)?;
     if copy.m.len() == 1 {
@@ -20,7 +20,7 @@ fn four_put_in(alloc: Global, applied: &AppliedId) -> Result<AppliedId, Error> {
     Ok(copy)
 }
 
-// The id applied to `$3`, sent on by a map that knows that slot.
+// Returns the id applied to `$3`, sent on by a map that knows that slot.
 fn three_sent_on(alloc: Global, id: Id, on: &SlotMap) -> Result<AppliedId, Error> {
     let three = Slot::numeric_at(3);
     if !on.contains_key(three) {
@@ -31,7 +31,7 @@ fn three_sent_on(alloc: Global, id: Id, on: &SlotMap) -> Result<AppliedId, Error
     AppliedId { id, m }.apply_slotmap(alloc, on)
 }
 
-// The applied id where its slots are sent on by a map that keeps them apart.
+// Returns the applied id whose slots are sent on by a map, if the map keeps them apart.
 fn sent_on(
     alloc: Global,
     call: &str,
@@ -48,7 +48,7 @@ fn sent_on(
     }
 }
 
-// The applied id that a call makes.
+// Returns the applied id that a call makes.
 fn made(
     alloc: Global,
     call: &str,
@@ -67,7 +67,7 @@ fn made(
     }
 }
 
-// Writes the second, and a `=` where it equals the first.
+// Writes the second one, and a `=` if it equals the first.
 fn write_beside(
     first: &AppliedId,
     second: &AppliedId,
@@ -78,7 +78,7 @@ fn write_beside(
     Ok(text.push_str(if second == first { "=" } else { "" })?)
 }
 
-// What a call on the applied id answers.
+// Writes the answer of a call on the applied id.
 pub(crate) fn write_applied(
     alloc: Global,
     call: &str,

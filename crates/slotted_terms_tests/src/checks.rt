@@ -1,4 +1,4 @@
-//! What the tests share: texts that are compared, and equations that are read from text, whose slots are all numeric.
+//! Comparisons of texts that the tests share, and equations that are read from text. All their slots are numeric.
 ghost use Rattle.slotted_theory.specs.FiniteMaps.{IsInjectiveMap};
 
 use slotted_proofs::Equation;
@@ -10,24 +10,24 @@ use std::process::Abort;
 // The derived form of `AppliedId::null`.
 const NULL: &str = "AppliedId { id: id0, m: SlotMap { pairs: [] } }";
 
-/// What stands before a sign, and behind it.
+/// Returns the texts before and behind a sign.
 pub fn parted<'a>(text: &'a str, sign: &str) -> (&'a str, &'a str) {
     text.split_once(sign).unwrap_or((text, ""))
 }
 
-/// The text is the one that is wanted.
+/// Asserts that the text is the wanted one.
 pub fn check_text(rt: &impl Abort, text: &str, wanted: &str) {
     assert!(rt; text == wanted, "{text} is not {wanted}");
 }
 
-/// The derived form of the value is this text, with `_` for each null id.
+/// Asserts that the derived form of the value is this text, with `_` for each null id.
 pub fn check_derived<T: Debug>(rt: &impl Abort, alloc: Global, value: &T, wanted: &str) {
     let text = format!(in alloc; "{value:?}").expect(rt, "text");
     let text = text.replace(alloc, NULL, "_").expect(rt, "text");
     check_text(rt, &text, wanted);
 }
 
-/// The value prints so.
+/// Asserts that the value prints as this text.
 pub fn check_shown<T: Show>(
     rt: &impl Abort,
     alloc: Global,
@@ -40,7 +40,7 @@ pub fn check_shown<T: Show>(
     check_text(rt, &text, wanted);
 }
 
-// Puts a pair of slots, written as in `3:7`.
+// Puts a pair of slots, written as in `3:7`, into a map.
 fn put_pair(rt: &impl Abort, table: &mut SlotTable, map: &mut SlotMap, pair: &str) {
     let (key, value) = parted(pair, ":");
     let key = table.named(key).expect(rt, "key");
@@ -48,7 +48,7 @@ fn put_pair(rt: &impl Abort, table: &mut SlotTable, map: &mut SlotMap, pair: &st
     map.insert(key, value).expect(rt, "insert");
 }
 
-/// The map of pairs of slots.
+/// Returns the map of pairs of slots.
 pub fn map_of(rt: &impl Abort, alloc: Global, pairs: &str) -> SlotMap {
     let mut table = SlotTable::new(alloc);
     let mut map = SlotMap::new(alloc);
@@ -58,7 +58,7 @@ pub fn map_of(rt: &impl Abort, alloc: Global, pairs: &str) -> SlotMap {
     map
 }
 
-/// A class with what is put in for its slots, as in `7 1:30 2:20`.
+/// Returns a class with the names of its slots, as in `7 1:30 2:20`.
 pub fn applied(rt: &impl Abort, alloc: Global, text: &str) -> AppliedId
     ensures { IsInjectiveMap result.m }
 {
@@ -71,7 +71,7 @@ pub fn applied(rt: &impl Abort, alloc: Global, text: &str) -> AppliedId
     AppliedId { id, m }
 }
 
-/// Two such sides with ` = ` between them.
+/// Returns the equation of two applied ids with ` = ` between them.
 pub fn equation(rt: &impl Abort, alloc: Global, sides: &str) -> Equation
     ensures left { IsInjectiveMap result.l.m }
     ensures right { IsInjectiveMap result.r.m }

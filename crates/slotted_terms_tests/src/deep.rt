@@ -10,7 +10,7 @@ use std::process::Abort;
 
 const LEVELS: usize = 100_000;
 
-// A text inside very many openers and closers.
+// Returns a text inside very many openers and closers.
 fn nested(alloc: Global, opener: &str, inner: &str, closer: &str) -> Result<String, Error> {
     let mut text = String::new(alloc);
     for _level in 0..LEVELS {
@@ -23,12 +23,12 @@ fn nested(alloc: Global, opener: &str, inner: &str, closer: &str) -> Result<Stri
     Ok(text)
 }
 
-// `(lam $x (lam $x .. ))` over this text.
+// Returns `(lam $x (lam $x .. ))` over this text.
 fn deep_text(alloc: Global, inner: &str) -> Result<String, Error> {
     nested(alloc, "(lam $x ", inner, ")")
 }
 
-// The pattern of a text, and its copy, print as that text.
+// Asserts that the pattern of a text, and its copy, print as that text.
 fn check_pattern(rt: &impl Abort, alloc: Global, text: &str) -> Result<(), Error> {
     let mut table = SlotTable::new(alloc);
     let pattern = Pattern::<Small>::parse(alloc, text, &mut table)?;
@@ -40,7 +40,7 @@ fn check_pattern(rt: &impl Abort, alloc: Global, text: &str) -> Result<(), Error
     Ok(())
 }
 
-// The term of a text prints as that text.
+// Asserts that the term of a text prints as that text.
 fn check_term(rt: &impl Abort, alloc: Global, text: &str) -> Result<(), Error> {
     let mut table = SlotTable::new(alloc);
     let term = RecExpr::<Small>::parse(alloc, text, &mut table)?;
@@ -49,7 +49,7 @@ fn check_term(rt: &impl Abort, alloc: Global, text: &str) -> Result<(), Error> {
     Ok(())
 }
 
-// The term of a text is alpha-equal to its copy, whose pattern prints as that text.
+// Asserts that the term of a text is alpha-equal to its copy, whose pattern prints as that text.
 fn check_copied(rt: &impl Abort, alloc: Global, text: &str) -> Result<(), Error> {
     let mut table = SlotTable::new(alloc);
     let term = RecExpr::<Small>::parse(alloc, text, &mut table)?;
@@ -62,14 +62,15 @@ fn check_copied(rt: &impl Abort, alloc: Global, text: &str) -> Result<(), Error>
     Ok(())
 }
 
-// What a pattern hashes to.
+// Returns the hash of a pattern.
 fn hash_of(pattern: &Pattern<Small>) -> u64 {
     let mut state = DefaultHasher::new();
     pattern.hash(&mut state);
     state.finish()
 }
 
-// The pattern of a text equals its clone, and hashes as that does. It does not equal the pattern of another text.
+// Asserts that the pattern of a text equals its clone, and has the same hash. The pattern of another text is
+// different.
 fn check_clone(rt: &impl Abort, alloc: Global, text: &str, other: &str) -> Result<(), Error> {
     let mut table = SlotTable::new(alloc);
     let pattern = Pattern::<Small>::parse(alloc, text, &mut table)?;
@@ -80,7 +81,7 @@ fn check_clone(rt: &impl Abort, alloc: Global, text: &str, other: &str) -> Resul
     Ok(())
 }
 
-// `{:?}` of the pattern of a text is this text.
+// Asserts that `{:?}` of the pattern of a text is this text.
 fn check_pattern_lines(
     rt: &impl Abort,
     alloc: Global,
@@ -94,7 +95,7 @@ fn check_pattern_lines(
     Ok(())
 }
 
-// `{:?}` of the term of a text is this text.
+// Asserts that `{:?}` of the term of a text is this text.
 fn check_term_lines(rt: &impl Abort, alloc: Global, text: &str, wanted: &str) -> Result<(), Error> {
     let mut table = SlotTable::new(alloc);
     let term = RecExpr::<Small>::parse(alloc, text, &mut table)?;

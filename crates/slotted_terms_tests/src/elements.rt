@@ -1,4 +1,4 @@
-//! Refusals, tokens and elements of syntax.
+//! Errors, tokens and elements of syntax.
 use slotted_slots::{AppliedId, Error, ParseError, SyntaxElem, Token};
 use std::fmt::Debug;
 use std::process::Abort;
@@ -24,7 +24,7 @@ fn refusals_have_numbers_and_names(rt: HostRuntime) {
     assert_case(&rt, &Error::NumberTooLarge, 11, "NumberTooLarge");
 }
 
-// The copy or clone equals its source.
+// Asserts that the copy or clone equals its source.
 fn assert_copied<T: PartialEq + Drop, E: Debug + Drop>(
     rt: &impl Abort,
     value: &T,

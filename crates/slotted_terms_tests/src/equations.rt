@@ -15,7 +15,7 @@ const NUMBERED: &str = "id7[$1 -> $0, $2 -> $1] = id9[$4 -> $1, $5 -> $2]";
 // The sample turned round, with its names numbered.
 const TURNED: &str = "id9[$4 -> $0, $5 -> $1] = id7[$1 -> $2, $2 -> $0]";
 
-// The call answers what prints so.
+// Asserts that the answer of the call prints as this text.
 fn check_answer<T: Show + Drop>(
     rt: &impl Abort,
     alloc: Global,
@@ -42,7 +42,7 @@ fn check_copies(rt: &impl Abort, alloc: Global, e: &Equation) {
     assert!(rt; e.slots(alloc).expect(rt, "slots").len() == 3);
 }
 
-// The equation sent on by a map that keeps apart what it knows of each side.
+// Returns the equation sent on by a map that keeps apart what it knows of each side.
 fn sent_on(rt: &impl Abort, alloc: Global, e: &Equation, on: &SlotMap) -> Equation
     requires left { IsInjectiveMap e.now.l.m }
     requires right { IsInjectiveMap e.now.r.m }
@@ -57,7 +57,7 @@ fn sent_on(rt: &impl Abort, alloc: Global, e: &Equation, on: &SlotMap) -> Equati
         .expect(rt, "sent")
 }
 
-// A name without a value becomes one fresh slot.
+// Asserts that a name without a value becomes one fresh slot.
 fn check_sent(rt: &impl Abort, alloc: Global, e: &Equation)
     requires left { IsInjectiveMap e.now.l.m }
     requires right { IsInjectiveMap e.now.r.m }
@@ -69,7 +69,7 @@ fn check_sent(rt: &impl Abort, alloc: Global, e: &Equation)
     check_answer(rt, alloc, sent.numbered(alloc), NUMBERED);
 }
 
-// `id7` over one name equals `id9` over it, sent on by a map that knows the name.
+// Returns the equation of `id7` and `id9` over one name, sent on by a map that knows the name.
 fn known_sent(alloc: Global, name: Slot, on: &SlotMap) -> Result<Equation, Error> {
     if !on.contains_key(name) {
         return Err(Error::NotEqual);

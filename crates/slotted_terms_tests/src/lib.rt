@@ -1,7 +1,12 @@
-//! Tests of worked values below the graph: of slots, maps and sets, nodes and languages, of texts, patterns and terms, and of equations and steps.
-//! They stand in a crate of their own, since a crate with tests is proved twice. What is asked stands in rows of text beside its answer, and the
-//! functions that read the rows are lent what they ask about: so what answers a call is proved once for all of its rows. In those of terms and
-//! equations memory that is refused ends a test at once, by `expect`: a `?` would drop all that is held, which is proved for each.
+//! Tests of worked values below the graph: slots, maps and sets, nodes and languages, texts, patterns and terms,
+//! equations and steps.
+//!
+//! They stand in a crate of their own, since a crate with tests is proved twice. Questions stand in rows of text beside
+//! their answers. The functions that read the rows borrow what they ask about, so the answer of a call is proved once
+//! for all of its rows.
+//!
+//! In tests of terms and equations, memory that is refused ends a test at once, by `expect`. A `?` would drop all that
+//! is held, which is proved for each.
 #![tactic(auto)]
 
 #[cfg(test)]

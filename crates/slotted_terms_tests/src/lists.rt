@@ -1,4 +1,5 @@
-//! Proof lists: each call that enters an equation, the steps that are checked over the slots of two classes, and the lines of a proof.
+//! Proof lists: each call that enters an equation, the steps that are checked over the slots of two classes, and the
+//! lines of a proof.
 use crate::checks::{check_derived, check_text, parted};
 use crate::steps::{answer, number};
 use slotted_proofs::{ProofLines, ProofList, ProvenEq, reasons};
@@ -7,8 +8,8 @@ use std::alloc::Global;
 use std::fmt::Write;
 use std::process::Abort;
 
-// Rows that one list is asked: what stands after `by` of an answer is what its line in a printed proof says, and then come its
-// number and the length of the list. A number is that of an entry of the list, or of a list before.
+// Rows that one list is asked. Behind `by` an answer has what its line in a printed proof says. Then come its number
+// and the length of the list. A number is that of an entry of this list, or of an earlier one.
 
 // An equation stands once, up to renaming.
 const ONCE: &str =
@@ -66,13 +67,13 @@ const LISTS: [&str; 9] = [
     ONCE, TURNED, ALONE, MIDDLE, REFLEXIVE, SYMMETRIC, TRANSITIVE, NEXT, LINES,
 ];
 
-// The lines of the proof of an entry.
+// Returns the lines of the proof of an entry.
 fn lines_of(rt: &impl Abort, alloc: Global, list: &ProofList, p: ProvenEq) -> ProofLines {
     assert!(rt; list.is_valid(p) && list.has_earlier_parts());
     list.lines(alloc, p).expect(rt, "lines")
 }
 
-// What a line of an entry says after `by`.
+// Returns what a line of an entry says behind `by`.
 fn reason_of(rt: &impl Abort, alloc: Global, list: &ProofList, p: ProvenEq) -> String {
     let lines = lines_of(rt, alloc, list, p);
     assert!(rt; list.is_valid(p));
@@ -89,7 +90,7 @@ fn write_entry(rt: &impl Abort, alloc: Global, text: &mut String, list: &ProofLi
     write!(text, "{equation} by {reason} at {number}").expect(rt, "text");
 }
 
-// An entry by itself has the entry's equation, and so has a copy of it.
+// Asserts that an entry by itself has the entry's equation, and so has a copy of it.
 fn check_copies(rt: &impl Abort, alloc: Global, list: &ProofList, p: ProvenEq) {
     assert!(rt; list.is_valid(p));
     let entry = list.entry(alloc, p).expect(rt, "entry");
@@ -97,7 +98,7 @@ fn check_copies(rt: &impl Abort, alloc: Global, list: &ProofList, p: ProvenEq) {
     assert!(rt; entry.copy(alloc).expect(rt, "copy") == entry);
 }
 
-// Appends the entry or the refusal that was answered, and the length of the list.
+// Appends the entry or the error that was answered, and the length of the list.
 fn write_answer(
     rt: &impl Abort,
     alloc: Global,
@@ -113,7 +114,7 @@ fn write_answer(
     write!(text, " of {count}").expect(rt, "text");
 }
 
-// The answer is told so.
+// Asserts that the answer is told by this text.
 fn check_answer(
     rt: &impl Abort,
     alloc: Global,
@@ -126,7 +127,7 @@ fn check_answer(
     check_text(rt, &text, wanted);
 }
 
-// Checks an entry that was answered, and keeps its number if it is the next one.
+// Checks an entry that was answered, and keeps its number if that is the next one.
 fn keep(
     rt: &impl Abort,
     alloc: Global,
@@ -140,7 +141,7 @@ fn keep(
     }
 }
 
-// The list answers so to a step.
+// Asserts that the list gives this answer to a step.
 fn check_step(
     rt: &impl Abort,
     alloc: Global,
@@ -176,7 +177,7 @@ fn write_lines(rt: &impl Abort, text: &mut String, lines: &ProofLines, numbers: 
     write!(text, "of {count}").expect(rt, "text");
 }
 
-// The lines of the proof of an entry are told so.
+// Asserts that the lines of the proof of an entry are told by this text.
 fn check_lines(
     rt: &impl Abort,
     alloc: Global,
@@ -191,7 +192,7 @@ fn check_lines(
     check_text(rt, &text, wanted);
 }
 
-// The row asks which entries were asserted, which lines a proof has, or for a step.
+// Checks a row, which asks for the asserted entries, for the lines of a proof, or for a step.
 fn check_row(
     rt: &impl Abort,
     alloc: Global,
@@ -208,7 +209,7 @@ fn check_row(
     }
 }
 
-// The rows ask a new list.
+// Asks the rows of a new list.
 fn check_list(rt: &impl Abort, alloc: Global, numbers: &mut Vec<ProvenEq>, rows: &str) {
     let mut list = ProofList::new(alloc);
     assert!(rt; list.is_empty());

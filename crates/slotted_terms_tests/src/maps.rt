@@ -1,16 +1,16 @@
-//! The calls on slot maps, and what they answer.
+//! The calls on slot maps, and their answers.
 use crate::writing::{write_list, write_set, write_shown, write_test};
 use slotted_slots::{Error, Slot, SlotMap, SlotTable};
 use std::alloc::Global;
 
-// Two pairs of one key, and one of another.
+// Returns two pairs of one key, and one of another.
 fn pairs() -> [(Slot, Slot); 3] {
     let zero = Slot::numeric_at(0);
     let three = Slot::numeric_at(3);
     [(three, zero), (zero, three), (three, three)]
 }
 
-// The inverse of a map that has one, or else a permutation after itself.
+// Returns the inverse of a map that has one, or else a permutation after itself.
 fn turned(alloc: Global, call: &str, map: &SlotMap) -> Result<SlotMap, Error> {
     if call == "inverse" && map.is_bijection() {
         map.inverse(alloc)
@@ -21,7 +21,7 @@ fn turned(alloc: Global, call: &str, map: &SlotMap) -> Result<SlotMap, Error> {
     }
 }
 
-// The map that is listed from this one, or from pairs.
+// Returns the map that is listed from this one, or from pairs.
 fn listed(alloc: Global, call: &str, map: &SlotMap) -> Result<SlotMap, Error> {
     match call {
         "copy" => map.copy(alloc),
@@ -34,7 +34,7 @@ fn listed(alloc: Global, call: &str, map: &SlotMap) -> Result<SlotMap, Error> {
     }
 }
 
-// The map that a call makes of two.
+// Returns the map that a call makes of two.
 fn made(
     alloc: Global,
     call: &str,
@@ -54,7 +54,7 @@ fn made(
     }
 }
 
-// Writes the second, and a `=` where it equals the first.
+// Writes the second one, and a `=` if it equals the first.
 fn write_beside(
     first: &SlotMap,
     second: &SlotMap,
@@ -65,7 +65,7 @@ fn write_beside(
     Ok(text.push_str(if second == first { "=" } else { "" })?)
 }
 
-// The pairs of a map, one after the other.
+// Writes the pairs of a map, one after the other.
 fn write_pairs(map: &SlotMap, table: &SlotTable, text: &mut String) -> Result<(), Error> {
     for (key, value) in map.iter() {
         write_shown(&key, table, text)?;
@@ -81,8 +81,8 @@ fn write_values(map: &SlotMap, table: &SlotTable, text: &mut String) -> Result<(
     Ok(())
 }
 
-// Over a map of three keys: two of its values, then one of them when `$3` has come in its place, and whether it is there
-// when its key is taken out.
+// Writes two of the values of a map of three keys, and one of them after `$3` has come in its place. Then writes
+// whether that value is there when its key is removed.
 fn write_changes(map: &mut SlotMap, table: &SlotTable, text: &mut String) -> Result<(), Error> {
     let three = Slot::numeric_at(3);
     if map.len() != 3 {
@@ -104,7 +104,7 @@ fn holds(call: &str, map: &SlotMap) -> bool {
     }
 }
 
-// What a call on two maps answers. The first may be changed.
+// Writes the answer of a call on two maps. The first may be changed.
 pub(crate) fn write_maps(
     alloc: Global,
     call: &str,

@@ -1,9 +1,9 @@
-//! What texts name, and how slots stand and print.
+//! The slots that texts name, and how slots are stored and printed.
 use crate::writing::{write_shown, write_test};
 use slotted_slots::{Error, Id, Slot, SlotTable};
 use std::alloc::Global;
 
-// A slot and whether the table knows it, or the number of a refusal.
+// Writes a slot and whether the table knows it, or the number of an error.
 fn write_slot(
     slot: Result<Slot, Error>,
     table: &SlotTable,
@@ -22,7 +22,7 @@ fn write_slot(
     Ok(text.push_str(", ")?)
 }
 
-// The slots of these names, a fresh one, and `$9`.
+// Writes the slots of these names, a fresh one, and `$9`.
 pub(crate) fn write_names(
     names: &str,
     table: &mut SlotTable,
@@ -35,7 +35,7 @@ pub(crate) fn write_names(
     write_slot(table.numeric(9), table, text)
 }
 
-// A name of another table, how `$3` is stored, and an id.
+// Writes a name of another table, how `$3` is stored, and an id.
 pub(crate) fn write_unknown(
     alloc: Global,
     table: &SlotTable,

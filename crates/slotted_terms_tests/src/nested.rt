@@ -1,5 +1,5 @@
-//! Two languages with slots beside and after a scope, as no operator of `Small` has them. They are neither written nor read:
-//! their nodes are made from their elements in order.
+//! Two languages with slots beside and after a scope, as no operator of `Small` has them. They are neither written nor
+//! read: their nodes are made from their elements in order.
 ghost use Rattle.std.specs.Prelude.{[], None};
 ghost use Rattle.std.proofs.Common.{lit<};
 ghost use Rattle.slotted_nodes.specs.Equal.{bind_form_fits, bind_same};
@@ -11,7 +11,7 @@ use slotted_languages::{Bind, Language, LanguageChildren, pair};
 use slotted_slots::{AppliedId, Error, Slot, SyntaxElem};
 use std::alloc::Global;
 
-// A binder over a child, and a slot after it.
+// A binder over a child, and a slot after the scope.
 #[derive(Drop, Debug, Clone, PartialEq, Eq, PartialOrd, Ord, Hash)]
 pub(crate) struct Tail(Bind<AppliedId>, Slot);
 
@@ -26,7 +26,7 @@ impl LanguageChildren for Tail {
 
     ghost few = { λ _. lit< tt };
 
-    // It reads nothing.
+    // No elements are read as such a node.
     ghost faithful = { λ _. tt };
 
     ghost same = { λ a b. tail_same a.0.slot a.0.elem a.1 b.0.slot b.0.elem b.1 };
@@ -91,7 +91,7 @@ impl LanguageChildren for Tri {
 
     ghost few = { λ _. lit< tt };
 
-    // It reads nothing.
+    // No elements are read as such a node.
     ghost faithful = { λ _. tt };
 
     ghost same = { λ a b. tri_same a.0 a.1.0.slot a.1.0.elem a.1.1 b.0 b.1.0.slot b.1.0.elem b.1.1 };
@@ -147,7 +147,7 @@ impl Language for Tri {
     }
 }
 
-// A binder over a binder and a slot: it scopes the last slot, which the inner binder does not.
+// A binder over a binder and a slot: its scope has the last slot, which the inner scope has not.
 #[derive(Drop, Debug, Clone, PartialEq, Eq, PartialOrd, Ord, Hash)]
 pub(crate) struct Outer(Bind<Tail>);
 
@@ -220,7 +220,7 @@ impl Language for Outer {
     }
 }
 
-// A binder over a child, and a slot, of these elements.
+// Returns a binder over a child, and a slot, of these elements.
 fn tail_of(alloc: Global, elements: &[SyntaxElem]) -> Result<Tail, Error> {
     match elements {
         [

@@ -1,4 +1,4 @@
-//! The calls on whole nodes, and what they answer.
+//! The calls on whole nodes, and their answers.
 use crate::writing::{
     write_children, write_ids, write_list, write_node, write_set, write_shape, write_test,
 };
@@ -7,7 +7,7 @@ use slotted_languages::outline::{outline, skeleton};
 use slotted_slots::{AppliedId, Error, Id, Slot, SlotMap, SlotTable};
 use std::alloc::Global;
 
-// The shape of the node, or of a copy that becomes its shape.
+// Returns the shape of the node, or of a copy that becomes its shape.
 fn shape<L: Language>(alloc: Global, call: &str, node: &L) -> Result<(L, SlotMap), Error> {
     if call == "weak_shape" {
         return node.weak_shape(alloc);
@@ -17,7 +17,7 @@ fn shape<L: Language>(alloc: Global, call: &str, node: &L) -> Result<(L, SlotMap
     Ok((own, free))
 }
 
-// The child under the next number, from 0 on. The child 0 is refused.
+// Returns the child under the next number, from 0 on. The child 0 is refused.
 fn next_child(next: &mut usize, child: AppliedId) -> Result<AppliedId, Error> {
     let id = Id(*next);
     *next = next.wrapping_add(1);
@@ -27,13 +27,13 @@ fn next_child(next: &mut usize, child: AppliedId) -> Result<AppliedId, Error> {
     Ok(AppliedId { id, m: child.m })
 }
 
-// The node with its children numbered.
+// Returns the node with its children numbered.
 fn numbered<L: Language>(alloc: Global, node: &L) -> Result<L, Error> {
     let mut next = 0usize;
     node.map_applied_ids(alloc, |child| next_child(&mut next, child))
 }
 
-// Whether no slot of a node is free and bound.
+// Returns whether no slot of a node is free and bound.
 fn is_apart<L: Language>(node: &L) -> bool {
     node.slot_count() < 1 << 30 && node.check()
 }
@@ -46,7 +46,7 @@ fn bare<L: Language>(alloc: Global, node: &L) -> Result<L, Error> {
     skeleton(alloc, node)
 }
 
-// The node renamed, in whole or in part, by a map that has to know each free slot.
+// Returns the node renamed, in whole or in part, by a map that has to know each free slot.
 fn renamed<L: Language>(
     alloc: Global,
     call: &str,
@@ -63,7 +63,7 @@ fn renamed<L: Language>(
     }
 }
 
-// The node that a call makes.
+// Returns the node that a call makes.
 fn made<L: Language>(
     alloc: Global,
     call: &str,
@@ -91,7 +91,7 @@ fn children<L: Language>(
     write_children(node.applied_id_occurrences(alloc)?.as_slice(), table, text)
 }
 
-// The slots that a call lists.
+// Returns the slots that a call lists.
 fn listed<L: Language>(alloc: Global, call: &str, node: &L) -> Result<Vec<Slot>, Error> {
     match call {
         "all_slot_occurrences" => node.all_slot_occurrences(alloc),
@@ -100,8 +100,8 @@ fn listed<L: Language>(alloc: Global, call: &str, node: &L) -> Result<Vec<Slot>,
     }
 }
 
-// What is answered of a node that a call makes. After that with fresh slots in place of those of a set comes a bar, and
-// that with fresh slots in place of all others.
+// Writes the node that a call makes. For `refresh_slots`, the node with fresh slots in place of those of a set comes
+// first. Behind a bar comes the node with fresh slots in place of all others.
 fn write_changed<L: Language>(
     alloc: Global,
     call: &str,
@@ -123,7 +123,7 @@ fn write_changed<L: Language>(
     Ok(())
 }
 
-// What a call on the node answers.
+// Writes the answer of a call on the node.
 pub(crate) fn write_answer<L: Language>(
     alloc: Global,
     call: &str,

@@ -1,4 +1,4 @@
-//! The parts of nodes and their payloads: what is read from a text, what it is written as, its places and its children.
+//! The parts of nodes and their payloads: how they are read and written, their places and their children.
 ghost use Rattle.std.specs.Prelude.{◌<◌, length};
 ghost use Rattle.slotted_nodes.specs.Form.{IsSmall};
 
@@ -9,7 +9,7 @@ use slotted_slots::{AppliedId, Error, Slot, SlotTable, SyntaxElem};
 use slotted_small::Small;
 use std::alloc::Global;
 
-// Whether the elements write this part.
+// Returns whether the elements write this part.
 fn is_read_from<L: LanguageChildren>(
     alloc: Global,
     elements: &[SyntaxElem],
@@ -18,7 +18,7 @@ fn is_read_from<L: LanguageChildren>(
     Ok(L::from_syntax(alloc, elements)?.as_ref() == Some(part))
 }
 
-// What a part is written as, then a bar where that reads as the same.
+// Writes a part as elements, and a bar if these read as the same part.
 fn write_syntax<L: ReadBack>(
     alloc: Global,
     part: &L,
@@ -33,7 +33,7 @@ fn write_syntax<L: ReadBack>(
     Ok(())
 }
 
-// A place: its slot, then where its scope ends for a binder, then a `!` where it is public.
+// Writes a place: its slot, then the end of its scope for a binder, then a `!` if the place is public.
 fn write_place<L: LanguageChildren>(part: &L, i: usize, text: &mut String) -> Result<(), Error>
     requires small { IsSmall (L.form part.now) }
     requires within { i < length (L.form part.now).names }
@@ -49,7 +49,7 @@ fn write_place<L: LanguageChildren>(part: &L, i: usize, text: &mut String) -> Re
     Ok(())
 }
 
-// The places, and the children with the first place of each.
+// Writes the places, and the children with the first place of each.
 fn write_places<L: LanguageChildren>(part: &L, text: &mut String) -> Result<(), Error> {
     let count = part.slot_count();
     if count >= 1 << 30 {
@@ -67,7 +67,7 @@ fn write_places<L: LanguageChildren>(part: &L, text: &mut String) -> Result<(), 
     Ok(())
 }
 
-// A part: what it is written as, its places and its children.
+// Writes a part: its elements, its places and its children.
 fn write_part<L: ReadBack>(
     alloc: Global,
     part: &L,
@@ -78,7 +78,7 @@ fn write_part<L: ReadBack>(
     write_places(part, text)
 }
 
-// Puts another slot at the first place, and another child in the place of the first.
+// Puts another slot at the first place, and another child in place of the first one.
 fn rewrite<L: LanguageChildren>(
     alloc: Global,
     part: &mut L,
@@ -94,7 +94,7 @@ fn rewrite<L: LanguageChildren>(
     Ok(())
 }
 
-// A copy of the part that the words write, which may be rewritten first, or `none`.
+// Writes a copy of the part of the words, which may be rewritten first, or `none`.
 fn part<L: ReadBack>(
     alloc: Global,
     call: &str,
@@ -111,7 +111,7 @@ fn part<L: ReadBack>(
     write_part(alloc, &part.copy(alloc)?, table, text)
 }
 
-// The part of an integer type.
+// Writes the part of an integer type.
 fn write_number(
     alloc: Global,
     call: &str,
@@ -137,7 +137,7 @@ fn write_number(
     }
 }
 
-// The part of a type that the words write.
+// Writes the part of a type of the words.
 pub(crate) fn write_kind(
     alloc: Global,
     call: &str,
@@ -159,7 +159,7 @@ pub(crate) fn write_kind(
     }
 }
 
-// Whether the words beside a `=` write equal parts.
+// Returns whether the words beside a `=` write equal parts.
 pub(crate) fn are_equal<L: LanguageChildren>(
     alloc: Global,
     words: &str,
@@ -171,7 +171,7 @@ pub(crate) fn are_equal<L: LanguageChildren>(
     Ok(one == other)
 }
 
-// Whether the symbols of the words beside a `<` stand so.
+// Returns whether the symbols of the words beside a `<` are in this order.
 pub(crate) fn are_ordered(alloc: Global, words: &str) -> Result<bool, Error> {
     let (one, other) = words.split_once(" < ").unwrap_or((words, ""));
     let one = Symbol::from_text(alloc, one)?;

@@ -1,4 +1,4 @@
-//! What rows ask of patterns.
+//! Questions that rows ask of patterns.
 use crate::checks::{check_derived, check_shown, check_text, parted};
 use slotted_languages::Language;
 use slotted_patterns::Pattern;
@@ -24,7 +24,7 @@ fn put_children<L: Language>(
     }
 }
 
-/// The pattern of a text, or of `P / Q` the node of P over the child patterns of Q.
+/// Returns the pattern of a text, or for `P / Q` the node of P over the child patterns of Q.
 pub fn read<L: Language>(
     rt: &impl Abort,
     alloc: Global,
@@ -39,7 +39,7 @@ pub fn read<L: Language>(
     Ok(pattern)
 }
 
-/// The pattern is printed so, and so is its text.
+/// Asserts that the pattern prints as this text, and so does the pattern of that text.
 pub fn check_printed<L: Language>(
     rt: &impl Abort,
     alloc: Global,
@@ -52,7 +52,7 @@ pub fn check_printed<L: Language>(
     check_text(rt, &text, wanted);
 }
 
-// The copy equals its source, and has this derived form.
+// Asserts that the copy equals its source, and has this derived form.
 fn check_copy<L: Language>(
     rt: &impl Abort,
     alloc: Global,
@@ -64,7 +64,7 @@ fn check_copy<L: Language>(
     check_derived(rt, alloc, copy, wanted);
 }
 
-/// The pattern, its copy and its clone have this derived form.
+/// Asserts that the pattern, its copy and its clone have this derived form.
 pub fn check_tree<L: Language>(rt: &impl Abort, alloc: Global, pattern: &Pattern<L>, wanted: &str) {
     check_derived(rt, alloc, pattern, wanted);
     let copy = pattern.copy(alloc).expect(rt, "copy");
@@ -73,13 +73,13 @@ pub fn check_tree<L: Language>(rt: &impl Abort, alloc: Global, pattern: &Pattern
     check_copy(rt, alloc, &clone, pattern, wanted);
 }
 
-/// The pattern of the term has this derived form.
+/// Asserts that the pattern of the term has this derived form.
 pub fn check_term<L: Language>(rt: &impl Abort, alloc: Global, term: &RecExpr<L>, wanted: &str) {
     let pattern = re_to_pattern(alloc, term).expect(rt, "pattern");
     check_derived(rt, alloc, &pattern, wanted);
 }
 
-/// The pattern is no term, or that of the term that it is has this derived form.
+/// Asserts that the pattern is no term, or that the pattern of its term has this derived form.
 pub fn check_as_term<L: Language>(
     rt: &impl Abort,
     alloc: Global,
@@ -92,7 +92,7 @@ pub fn check_as_term<L: Language>(
     }
 }
 
-// Whether a text is refused as one outside the grammar.
+// Returns whether a text is refused as one outside the grammar.
 fn is_outside<L: Language>(alloc: Global, text: &str, table: &mut SlotTable) -> bool {
     match Pattern::<L>::parse(alloc, text, table) {
         Ok(_) => false,
@@ -100,7 +100,7 @@ fn is_outside<L: Language>(alloc: Global, text: &str, table: &mut SlotTable) -> 
     }
 }
 
-/// Those proper beginnings of a text that are not outside the grammar, one after another, are this text.
+/// Asserts that those proper beginnings of a text that are not outside the grammar, one after another, are this text.
 pub fn check_beginnings<L: Language>(
     rt: &impl Abort,
     alloc: Global,

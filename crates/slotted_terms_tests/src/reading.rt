@@ -1,15 +1,15 @@
-//! What the rows are written in: slots as `$8`, children as `#7:8,9`, maps as `$8->$5,$9->$6`, nodes as their elements.
+//! The texts of rows: slots as `$8`, children as `#7:8,9`, maps as `$8->$5,$9->$6`, nodes as their elements.
 use slotted_languages::{Language, LanguageChildren};
 use slotted_slots::{AppliedId, Error, Id, Slot, SlotMap, SlotTable, SyntaxElem};
 use slotted_small::Small;
 use std::alloc::Global;
 
-// The slot of a name, which may stand after a `$`.
+// Returns the slot of a name, which may stand after a `$`.
 fn slot(table: &mut SlotTable, name: &str) -> Result<Slot, Error> {
     table.named(name.trim_start_matches('$'))
 }
 
-// Puts the pair that the text writes; a slot alone is put under the next of the keys `$0`, `$1`, ..
+// Puts the pair of the text into a map. A slot alone is put under the next of the keys `$0`, `$1`, ..
 fn put(m: &mut SlotMap, table: &mut SlotTable, pair: &str) -> Result<(), Error> {
     let (key, value) = match pair.split_once("->") {
         Some((key, value)) => (slot(table, key)?, value),
@@ -19,7 +19,7 @@ fn put(m: &mut SlotMap, table: &mut SlotTable, pair: &str) -> Result<(), Error> 
     m.insert(key, value)
 }
 
-// The map of these pairs and slots, parted by commas.
+// Returns the map of these pairs and slots, parted by commas.
 pub(crate) fn map_of(alloc: Global, table: &mut SlotTable, text: &str) -> Result<SlotMap, Error> {
     let mut m = SlotMap::new(alloc);
     for pair in text.split_terminator(',') {
@@ -28,7 +28,7 @@ pub(crate) fn map_of(alloc: Global, table: &mut SlotTable, text: &str) -> Result
     Ok(m)
 }
 
-// A child written `id` or `id:x,y`, with a map as above.
+// Returns a child written `id` or `id:x,y`, with a map as above.
 pub(crate) fn child(alloc: Global, table: &mut SlotTable, text: &str) -> Result<AppliedId, Error> {
     let (id, slots) = text.split_once(':').unwrap_or((text, ""));
     let m = map_of(alloc, table, slots)?;
@@ -38,7 +38,7 @@ pub(crate) fn child(alloc: Global, table: &mut SlotTable, text: &str) -> Result<
     })
 }
 
-// An element: `$n` is a slot, `#` and a child a child, all else a text.
+// Returns an element: `$n` is a slot, `#` and a child a child, all else a text.
 fn element(alloc: Global, table: &mut SlotTable, word: &str) -> Result<SyntaxElem, Error> {
     if word.starts_with('$') {
         Ok(SyntaxElem::Slot(slot(table, word)?))
@@ -49,7 +49,7 @@ fn element(alloc: Global, table: &mut SlotTable, word: &str) -> Result<SyntaxEle
     }
 }
 
-// The elements of a text, parted by spaces.
+// Returns the elements of a text, parted by spaces.
 fn elements_of(alloc: Global, table: &mut SlotTable, text: &str) -> Result<Vec<SyntaxElem>, Error> {
     let mut elements = Vec::new(alloc);
     for word in text.split_whitespace() {
@@ -58,7 +58,7 @@ fn elements_of(alloc: Global, table: &mut SlotTable, text: &str) -> Result<Vec<S
     Ok(elements)
 }
 
-// The part that a text writes.
+// Returns the part of a text.
 pub(crate) fn read<L: LanguageChildren>(
     alloc: Global,
     table: &mut SlotTable,
@@ -78,7 +78,7 @@ impl Made for Small {
     }
 }
 
-// The node that a text writes.
+// Returns the node of a text.
 pub(crate) fn node<L: Made>(alloc: Global, table: &mut SlotTable, text: &str) -> Result<L, Error> {
     L::made(alloc, elements_of(alloc, table, text)?.as_slice())
 }

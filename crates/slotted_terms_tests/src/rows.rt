@@ -1,4 +1,4 @@
-//! The walk over the rows of a table, each of which is `TEXT => ANSWER`.
+//! The walk over the rows of a table. Each row is `TEXT => ANSWER`.
 use crate::checks::{check_derived, parted};
 use crate::{patterns, terms};
 use slotted_languages::Language;
@@ -10,24 +10,24 @@ use slotted_terms::expr::printing::Printable;
 use std::alloc::Global;
 use std::process::Abort;
 
-/// What the rows of a table ask. Where a text is refused, they ask for the refusal.
+/// The question of the rows of a table. If a text is refused, its row asks for the error.
 #[derive(Clone, Copy)]
 pub enum Question {
-    /// What the pattern of a text prints.
+    /// How the pattern of a text prints.
     PatternPrinted,
-    /// What stands in the pattern of a text, in its copy and in its clone.
+    /// The derived forms of the pattern of a text, of its copy and of its clone.
     PatternTree,
-    /// What stands in the pattern of the term that the pattern of a text is.
+    /// The derived form of the pattern of the term that the pattern of a text is.
     PatternAsTerm,
-    /// What the term of a text prints.
+    /// How the term of a text prints.
     TermPrinted,
-    /// What stands in the term of a text, and in its copy.
+    /// The derived forms of the term of a text and of its copy.
     TermTree,
-    /// What stands in the term that the pattern of the term of a text is.
+    /// The derived form of the term that the pattern of the term of a text is.
     TermReturned,
     /// Whether the terms of `WHY: T == U` are alpha-equal.
     Alike,
-    /// Which proper beginnings of a text are not outside the grammar of patterns.
+    /// The proper beginnings of a text that are not outside the grammar of patterns.
     Beginnings,
 }
 
@@ -121,7 +121,7 @@ fn ask<L: Printable>(
     }
 }
 
-// Appends a text, or of `PART * N` N times that part.
+// Appends a text, or for `PART * N` N times that part.
 fn write_text(rt: &impl Abort, text: &mut String, written: &str) {
     let (part, count) = written.split_once(" * ").unwrap_or((written, "1"));
     let count: usize = count.parse().expect(rt, "count");
@@ -139,7 +139,7 @@ fn check_row<L: Printable>(rt: &impl Abort, alloc: Global, question: Question, r
     ask::<L>(rt, alloc, question, &text, &mut table, wanted);
 }
 
-/// Each text of a table has the answer that stands beside it, to each question.
+/// Asserts that each text of a table has the answer beside it, to each question.
 pub fn check(rt: &impl Abort, alloc: Global, questions: &[Question], rows: &str) {
     for question in questions {
         for row in rows.lines() {

@@ -1,9 +1,9 @@
-//! The calls on small sets, and what they answer.
+//! The calls on small sets, and their answers.
 use crate::writing::{write_set, write_shown, write_test};
 use slotted_slots::{Error, Slot, SlotMap, SlotTable, SmallHashSet};
 use std::alloc::Global;
 
-// The set that a call makes of two.
+// Returns the set that a call makes of two.
 fn made(
     alloc: Global,
     call: &str,
@@ -25,7 +25,7 @@ fn holds(call: &str, first: &SmallHashSet<Slot>, second: &SmallHashSet<Slot>) ->
     }
 }
 
-// What a call on the values of two maps answers.
+// Writes the answer of a call on the values of two maps.
 pub(crate) fn write_sets(
     alloc: Global,
     call: &str,
@@ -43,8 +43,8 @@ pub(crate) fn write_sets(
     }
 }
 
-// Puts a slot in, takes it out or looks for it, and answers whether it is new or there; any other step is whether there is
-// none.
+// Inserts, removes or seeks a slot. Returns whether the slot is new or there. Any other step returns whether the set is
+// empty.
 fn step(set: &mut SmallHashSet<Slot>, call: &str, slot: Slot) -> Result<bool, Error> {
     match call {
         "insert" => set.insert(slot),
@@ -54,7 +54,7 @@ fn step(set: &mut SmallHashSet<Slot>, call: &str, slot: Slot) -> Result<bool, Er
     }
 }
 
-// What a step answers, how many slots there are then, and which.
+// Writes the answer of a step, and how many slots there are then, and which.
 fn write_step(
     set: &mut SmallHashSet<Slot>,
     words: &str,
@@ -71,7 +71,7 @@ fn write_step(
     Ok(())
 }
 
-// The steps of a set that has no slots at first.
+// Writes the steps of a set that has no slots at first.
 pub(crate) fn write_steps(
     set: &mut SmallHashSet<Slot>,
     words: &str,

@@ -2,7 +2,7 @@
 use slotted_maps::SmallHashMap;
 use std::process::Abort;
 
-// Puts an entry in, and answers the old value.
+// Inserts an entry. Returns the old value.
 fn put(rt: &impl Abort, map: &mut SmallHashMap<u32, u32>, key: u32, value: u32) -> u32 {
     map.insert(key, value).expect(rt, "insert").unwrap_or(0)
 }

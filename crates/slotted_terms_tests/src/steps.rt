@@ -1,4 +1,4 @@
-//! The steps that the rows of a text ask a proof list, one after another.
+//! The steps that the rows of a text ask of a proof list, one after another.
 ghost use Rattle.slotted_theory.specs.FiniteMaps.{IsInjectiveMap};
 
 use crate::checks::{applied, equation, parted};
@@ -7,13 +7,13 @@ use slotted_slots::{AppliedId, Error};
 use std::alloc::Global;
 use std::process::Abort;
 
-/// The number that a text writes, which some list answered before.
+/// Returns the number of a text, which some list answered before.
 pub fn number(rt: &impl Abort, numbers: &[ProvenEq], text: &str) -> ProvenEq {
     let number: usize = text.parse().expect(rt, "number");
     *numbers.get(number).expect(rt, "entry")
 }
 
-// `SIDES by TEXT`
+// Enters an asserted equation, for `SIDES by TEXT`.
 fn explicit(
     rt: &impl Abort,
     alloc: Global,
@@ -26,7 +26,7 @@ fn explicit(
     list.enter_explicit(alloc, &e.l, &e.r, Some(text))
 }
 
-// The class of a text equals itself.
+// Enters that the class of a text equals itself.
 fn reflexive(
     rt: &impl Abort,
     alloc: Global,
@@ -37,7 +37,7 @@ fn reflexive(
     list.enter_reflexive(alloc, &a)
 }
 
-// The entry of a number, turned round.
+// Enters the entry of a number, turned round.
 fn symmetric(
     rt: &impl Abort,
     alloc: Global,
@@ -48,7 +48,7 @@ fn symmetric(
     list.enter_symmetric(alloc, p)
 }
 
-// The two ends of a chain of two equations.
+// Returns the two ends of a chain of two equations.
 fn joined(
     rt: &impl Abort,
     alloc: Global,
@@ -66,7 +66,7 @@ fn joined(
     list.enter_transitive(alloc, p, q)
 }
 
-// The same of the chain `A = B = C`.
+// Enters the equation of the two ends of the chain `A = B = C`.
 fn transitive(
     rt: &impl Abort,
     alloc: Global,
@@ -81,7 +81,7 @@ fn transitive(
     joined(rt, alloc, list, &l, &middle, &r)
 }
 
-// Two leaves are congruent without parts.
+// Enters that two leaves are congruent without parts.
 fn leaves(
     rt: &impl Abort,
     alloc: Global,
@@ -100,7 +100,7 @@ enum Step {
     Transitive(ProvenEq, ProvenEq),
 }
 
-// The step over no number, over one, or over two.
+// Returns the step over no number, over one, or over two.
 fn step_over(rt: &impl Abort, numbers: &[ProvenEq], parts: &str) -> Step {
     let (first, second) = parted(parts, " ");
     if first.is_empty() {
@@ -130,7 +130,8 @@ fn check(
     }
 }
 
-// `SIDES by PARTS`, or `SIDES over SIDES by PARTS` where the classes have other slots than the equation.
+// Checks a step for `SIDES by PARTS`, or for `SIDES over SIDES by PARTS` if the classes have other slots than the
+// equation.
 fn checked(
     rt: &impl Abort,
     alloc: Global,
@@ -146,7 +147,7 @@ fn checked(
     check(rt, alloc, list, &e, &over, step)
 }
 
-/// What the list answers to a step.
+/// Returns the list's answer to a step.
 pub fn answer(
     rt: &impl Abort,
     alloc: Global,

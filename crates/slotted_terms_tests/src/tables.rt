@@ -1,11 +1,11 @@
-//! The tables of worked texts, and what each of them is asked.
+//! The tables of worked texts, and the questions of each.
 use crate::rows::Question::{
     Alike, Beginnings, PatternAsTerm, PatternPrinted, PatternTree, TermPrinted, TermReturned,
     TermTree,
 };
 use crate::rows::{Question, check};
 
-// What is printed of texts of terms, and of nodes over too few or too many children.
+// How texts of terms print, and nodes over too few or too many children.
 const TERMS: &str = " ( app  a( g $1 ) )  => (app a (g $1))
 (lam $x (app é (var $f3))) => (lam $x (app é (var $f3)))
 (lam\u{3000}$x\u{85}(app a\u{a0}b)\u{2028}) => (lam $x (app a b))
@@ -31,7 +31,7 @@ a:=b => a:=b
 (lam $x b) / (app a c) => (lam $x a)
 b / (lam $x a) => b";
 
-// What is printed of texts of patterns that are no terms.
+// How texts of patterns print that are no terms.
 const PATTERNS: &str = "?x => ?x
 ?x:= => ?x:=
 a[b :=c][d := e] => a[b := c][d := e]
@@ -40,7 +40,7 @@ a[b[c := d] := e[f := g]] => a[b[c := d] := e[f := g]]
 (lam $x (app ?f (var $x)))[(var $x) := ?t] => (lam $x (app ?f (var $x)))[(var $x) := ?t]
 (lam\u{3000}$x\u{85}?é)\u{a0}[ (var $x)\u{2028}:= +5 ] => (lam $x ?é)[(var $x) := 5]";
 
-// What stands in terms, in their derived form.
+// The derived forms of terms.
 const TREES: &str = "g => ENode(Word(Symbol(\"g\")), [])
 (g) => ENode(Word(Symbol(\"g\")), [])
 a:=b => ENode(Word(Symbol(\"a:=b\")), [])
@@ -54,7 +54,7 @@ a:=b => ENode(Word(Symbol(\"a:=b\")), [])
 (add 1 (mul 2 3)) => ENode(Add(_, _), [ENode(Number(1), []), ENode(Mul(_, _), [ENode(Number(2), []), ENode(Number(3), [])])])
 (lam $x (app (f $x $y) (var $x))) => ENode(Lam(Bind { slot: Slot(2), elem: _ }), [ENode(App(_, _), [ENode(F(Slot(2), Slot(6)), []), ENode(Var(Slot(2)), [])])])";
 
-// What stands in other patterns: several substitutions follow one another from the left.
+// The derived forms of other patterns. Several substitutions follow one another from the left.
 const PATTERN_TREES: &str = "?x => PVar(\"x\")
 ?x:= => PVar(\"x:=\")
 (app ?f a) => ENode(App(_, _), [PVar(\"f\"), ENode(Word(Symbol(\"a\")), [])])
@@ -66,20 +66,20 @@ const WRONG_COUNTS: &str = "(app a b) / g => ENode(App(_, _), [])
 (app a b) / (lam $x c) => ENode(App(_, _), [ENode(Word(Symbol(\"c\")), [])])
 5 / (app a (g $1)) => ENode(Number(5), [ENode(Word(Symbol(\"a\")), []), ENode(G(Slot(4)), [])])";
 
-// A wrong number of children makes no term.
+// A pattern with a wrong number of children is no term.
 const WRONG_FOR_TERMS: &str = "(app a b) / g => NotATerm
 (app a b) / (lam $x c) => NotATerm
 (lam $x c) / (app a b) => NotATerm
 5 / (app a (g $1)) => NotATerm";
 
-// Nor does a variable or a substitution.
+// A pattern with a variable or a substitution is no term.
 const NO_TERMS: &str = "?x => NotATerm
 ?x:= => NotATerm
 a[a := b] => NotATerm
 (app ?f a) => NotATerm
 (lam $x a[b := c]) => NotATerm";
 
-// Texts outside the grammar, each with its one fault; those of substitutions last.
+// Texts outside the grammar, each with its one fault. Those of substitutions come last.
 const FAULTS: &str = " => Parse(ParseState([]))
 ( => Parse(ParseState([]))
 (f $x => Parse(ParseState([]))
@@ -123,7 +123,7 @@ a[b := c]] => Parse(RemainingRest([RBracket]))
 a[(f $1) c] => Parse(FromSyntaxFailed([String(\"f\"), Slot(Slot(4))]))
 (app [a := b] a) => Parse(ParseState([LBracket, Ident(\"a\"), ColonEquals, Ident(\"b\"), RBracket, Ident(\"a\"), RParen]))";
 
-// The one proper beginning of a pattern that is a pattern.
+// A pattern with one proper beginning that is a pattern.
 const LONG: &str = "(lam $x (app ?f (var $x)))[(var $x) := ?t] => (lam $x (app ?f (var $x)))";
 
 // Whether two terms differ in the choice of bound names alone.
@@ -160,7 +160,7 @@ words: a == b => no
 a child that is missing: (app a b) / (lam $2 (var $1)) == (app (var $1) (var $1)) => no
 a child that is too many: 0 / (app (var $1) (var $2)) == 0 / (lam $2 (var $1)) => no";
 
-// What the texts of each table are asked.
+// The questions for the texts of each table.
 const TABLES: [(&[Question], &str); 10] = [
     (&[PatternPrinted, TermPrinted], TERMS),
     (&[PatternPrinted], PATTERNS),
@@ -181,7 +181,7 @@ fn each_text_has_its_answer(rt: HostRuntime) {
     }
 }
 
-// Texts that open without end, by their part and how often it stands there.
+// Texts that open without end, by their part and how often that part stands there.
 const HOSTILE: &str = "(a  * 100000 => Parse(ParseState([]))
 a[ * 100000 => Parse(ParseState([]))
 a[b :=  * 100000 => Parse(ParseState([]))";

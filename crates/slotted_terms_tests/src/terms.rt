@@ -1,4 +1,4 @@
-//! What rows ask of terms.
+//! Questions that rows ask of terms.
 use crate::checks::{check_shown, check_text, parted};
 use crate::patterns::{check_as_term, check_term};
 use slotted_languages::Language;
@@ -21,7 +21,7 @@ fn put_children<L: Language>(
     mem::swap(&mut term.children, &mut other.children);
 }
 
-/// The term of a text, or of `T / U` the node of T over the children of U.
+/// Returns the term of a text, or for `T / U` the node of T over the children of U.
 pub fn read<L: Language>(
     rt: &impl Abort,
     alloc: Global,
@@ -36,7 +36,7 @@ pub fn read<L: Language>(
     Ok(term)
 }
 
-/// The term is printed so, and so is its text.
+/// Asserts that the term prints as this text, and so does the term of that text.
 pub fn check_printed<L: Printable>(
     rt: &impl Abort,
     alloc: Global,
@@ -49,14 +49,14 @@ pub fn check_printed<L: Printable>(
     check_text(rt, &text, wanted);
 }
 
-/// The patterns of the term and of its copy have this derived form.
+/// Asserts that the patterns of the term and of its copy have this derived form.
 pub fn check_tree<L: Language>(rt: &impl Abort, alloc: Global, term: &RecExpr<L>, wanted: &str) {
     check_term(rt, alloc, term, wanted);
     let copy = term.copy(alloc).expect(rt, "copy");
     check_term(rt, alloc, &copy, wanted);
 }
 
-/// The term that the term's pattern is has this derived form, or the pattern is no term.
+/// Asserts that the term that the term's pattern is has this derived form, or that the pattern is no term.
 pub fn check_returned<L: Language>(
     rt: &impl Abort,
     alloc: Global,
@@ -67,7 +67,7 @@ pub fn check_returned<L: Language>(
     check_as_term(rt, alloc, &pattern, wanted);
 }
 
-// Puts another id in the place of a node's first child.
+// Puts another id in place of a node's first child.
 fn put_other_id<L: Language>(alloc: Global, node: &mut L) {
     if node.applied_id_count() > 0 {
         let child = AppliedId {
@@ -78,7 +78,7 @@ fn put_other_id<L: Language>(alloc: Global, node: &mut L) {
     }
 }
 
-// Whether a term is alpha-equal to the term of a text, whose first child gets another id: terms ignore it.
+// Asserts whether a term is alpha-equal to the term of a text, whose first child gets another id. Terms ignore the id.
 fn check_like<L: Language>(
     rt: &impl Abort,
     alloc: Global,
@@ -93,7 +93,7 @@ fn check_like<L: Language>(
     check_text(rt, if alike { "yes" } else { "no" }, wanted);
 }
 
-/// Whether the terms of two texts are alpha-equal.
+/// Asserts whether the terms of two texts are alpha-equal.
 pub fn check_alike<L: Language>(
     rt: &impl Abort,
     alloc: Global,

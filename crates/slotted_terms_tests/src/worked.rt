@@ -1,4 +1,4 @@
-//! The rows: a call, a type, what is worked on, an arrow, and the answer, or the name of a refusal.
+//! The rows: a call, a type, the values of the call, an arrow, and the answer or the name of an error.
 use crate::applied::write_applied;
 use crate::maps::write_maps;
 use crate::names::{write_names, write_unknown};
@@ -13,7 +13,7 @@ use slotted_small::Small;
 use std::alloc::Global;
 use std::process::Abort;
 
-// The answer of a call on the node of these words, which may be followed by a map.
+// Writes the answer of a call on the node of these words, which a map may follow.
 fn write_on<L: Made>(
     alloc: Global,
     call: &str,
@@ -27,7 +27,7 @@ fn write_on<L: Made>(
     write_answer(alloc, call, &node, &m, table, text)
 }
 
-// The answer of a call on an applied id, its map or the values of that, which may be followed by a map.
+// Writes the answer of a call on an applied id, its map or the values of that, which a map may follow.
 fn write_over_maps(
     alloc: Global,
     call: &str,
@@ -46,7 +46,7 @@ fn write_over_maps(
     }
 }
 
-// The answer of a row about slots.
+// Writes the answer of a row about slots.
 fn write_slots(
     alloc: Global,
     call: &str,
@@ -63,7 +63,7 @@ fn write_slots(
     }
 }
 
-// The answer of a row.
+// Writes the answer of a row.
 fn write_row(
     alloc: Global,
     row: &str,
@@ -99,7 +99,7 @@ fn check_rows(rt: &impl Abort, alloc: Global, rows: &str) {
     }
 }
 
-// What is read from words is written as words that read as the same. Then come its places, and its children.
+// What is read from words is written as words that read as the same. Then come the places, and the children.
 const PAYLOADS: &str = "from_syntax u8 +7 => 7 | |
 from_syntax u8 007 => 7 | |
 from_syntax u8 255 => 255 | |
@@ -247,9 +247,10 @@ check Outer $8 $8 #7:8 $8 => yes
 map_applied_ids Small app #7:8,9 #5:9 => id0[$0 -> $8, $1 -> $9] id1[$0 -> $9]
 map_applied_ids Small app #7:8,9 #0 => NotATerm";
 
-// Names are numbered where they first stand, and a number holds in its scope alone: the binder's name may be free after
-// it.
-// Under the outer of two binders the inner one's scope ends first, and the outer one comes back.
+// Names are numbered from the left, and the number of a binder holds in its scope alone. The binder's name may be free
+// after that.
+//
+// If one of two binders stands inside the other, its scope ends first, and the number of the outer one comes back.
 const SHAPES: &str = "weak_shape Small app #7:8,9 #7:9,8 => $0 $1 $1 $0 [$0 -> $8, $1 -> $9]
 weak_shape_inplace Small app #7:8,9 #7:9,8 => $0 $1 $1 $0 [$0 -> $8, $1 -> $9]
 weak_shape Small lam $8 #7:8,9 => $0 $0 $1 [$1 -> $9]
@@ -272,8 +273,8 @@ skeleton Small lam $8 #7:8,9 => $0 $1
 outline Tri $9 $8 #7:8 $6 => $9 $8 $5 $6
 skeleton Tri $9 $8 #7:8 $6 => $0 $0 $1 $0";
 
-// The binder's name is free before and after its scope, and there alone it is renamed.
-// A map that lacks a free slot is refused.
+// The binder's name is free before and after its scope, and only there it is renamed. A map without a free slot is
+// refused.
 const RENAMED: &str = "apply_slotmap Small lam $8 #7:8,9 by $9->$5 => $8 $8 $5
 apply_slotmap Small lam $8 #7:8,9 by $9->$8 => $f0 $f0 $8
 apply_slotmap Small lam $8 #7:8,9 by $8->$5 => NotEqual
@@ -329,7 +330,7 @@ is_perm Map :0->4,1->2 => no
 inverse Map :0->4,1->2 => [$2 -> $1, $4 -> $0]
 bijection_from_fresh_to Map :4->0,6->0 => [$f0 -> $4, $f1 -> $6]";
 
-// Steps tell what they answer, how many slots there are then, and which.
+// Steps tell their answer, how many slots there are then, and which.
 const SETS: &str = "\
 steps Set is_empty:0 insert:3 insert:1 insert:3 insert:2 contains:2 remove:2 remove:2 => \
     yes 0 yes 1 $3 yes 2 $1 $3 no 2 $1 $3 yes 3 $1 $2 $3 yes 3 $1 $2 $3 yes 2 $1 $3 no 2 $1 $3
@@ -343,7 +344,7 @@ is_superset Set :2,3 by 3,1,2 => no
 is_disjoint Set :2,3 by 3,1,2 => no
 is_disjoint Set :2,3 by 1 => yes";
 
-// A slot that the map lacks is left out, or becomes a fresh one.
+// A slot that is not in the map is left out, or becomes a fresh one.
 const APPLIED: &str = "slots AppliedId 2:4 => $4
 new AppliedId 2:4 => id2[$0 -> $4] =
 copy AppliedId 2:4 => id2[$0 -> $4] =
@@ -354,7 +355,8 @@ apply_slotmap AppliedId 5:3 by 3->7,4->7 => id5[$0 -> $7]
 apply_slotmap_partial AppliedId 5:1,2,3 by 1->7,3->8 => id5[$0 -> $7, $2 -> $8]
 apply_slotmap_fresh AppliedId 5:1,2,3 by 1->7,3->8 => id5[$0 -> $7, $1 -> $f0, $2 -> $8]";
 
-// What the slot of each name prints and whether it is known, or the number of a refusal; then a fresh slot and `$9`.
+// How the slot of each name prints, and whether the slot is known, or the number of an error. Then come a fresh slot
+// and `$9`.
 const SLOTS: &str = "\
 named Slot 42 +5 007 f7 f+7 f 4294967296 x => \
     $42 yes, $5 yes, $7 yes, $f7 yes, $f7 yes, $f yes, $4294967296 yes, $x yes, $f8 yes, $9 yes,

@@ -1,5 +1,4 @@
-//! What answers are written as. An answer is handed over as the call gave it, so that its refusal is asked for here
-//! alone.
+//! The texts of answers. An answer is handed over as the call gave it, so that its error is looked at here alone.
 use slotted_languages::Language;
 use slotted_slots::{
     AppliedId, Error, Id, Show, Slot, SlotMap, SlotTable, SmallHashSet, SyntaxElem,
@@ -10,7 +9,7 @@ pub(crate) fn write_test(holds: Result<bool, Error>, text: &mut String) -> Resul
     Ok(text.push_str(if holds? { "yes" } else { "no" })?)
 }
 
-// A value as it prints, and a space.
+// Writes a value as it prints, and a space.
 pub(crate) fn write_shown<T: Show>(
     value: &T,
     table: &SlotTable,
@@ -73,7 +72,7 @@ pub(crate) fn write_ids(ids: &[Id], text: &mut String) -> Result<(), Error> {
     Ok(())
 }
 
-// Children, as `id7[$0 -> $8]`.
+// Writes children, as `id7[$0 -> $8]`.
 pub(crate) fn write_children(
     children: &[&AppliedId],
     table: &SlotTable,
@@ -85,7 +84,7 @@ pub(crate) fn write_children(
     Ok(())
 }
 
-// An element: of a child its id alone.
+// Writes an element: of a child its id alone.
 fn write_element(element: &SyntaxElem, table: &SlotTable, text: &mut String) -> Result<(), Error> {
     match element {
         SyntaxElem::String(word) => Ok(write!(text, "{word} ")?),
