@@ -1,6 +1,6 @@
 -- A class that was made is filed, and all is rebuilt.
 use Rattle.std.proofs.Common.{◌≡◌, ◌≢◌, ◌<◌, ℕ, suc, List, [], ◌∷◌, ◌++◌, length, sym, ◌∙◌, ap, refl, subst, append_assoc, arith, inl, inr}
-use Rattle.std.specs.Prelude.{◌⊎◌, false, Some, Contains}
+use Rattle.std.specs.Prelude.{◌⊎◌, false, None, Some, Contains}
 use Rattle.std.proofs.lemmas.List.{append-nil}
 use Rattle.slotted_theory.specs.Nameless.{DTerm}
 use Rattle.slotted_slots.specs.Table.{Table}
