@@ -1,8 +1,8 @@
 //! The plain find, without path compression: the answer of `find` for each class when it died, followed step by step.
 //! The plain find has to agree with the graph's.
 use slotted_graph::EGraph;
-use slotted_languages::Language;
 use slotted_slots::{AppliedId, Error, Id, SlotMap};
+use slotted_terms::expr::printing::Printable;
 use std::alloc::Global;
 
 /// What `find` answered for each class when the class died, with the slots of the class as names. A live class has no
@@ -13,7 +13,7 @@ pub struct PlainFind {
 }
 
 // Returns what `find` maps a class to, with the slots that are not redundant as names.
-fn found<L: Language>(graph: &EGraph<L>, id: Id) -> Result<Option<AppliedId>, Error> {
+fn found<L: Printable>(graph: &EGraph<L>, id: Id) -> Result<Option<AppliedId>, Error> {
     if !graph.is_valid_id(id) {
         return Ok(None);
     }
@@ -22,7 +22,7 @@ fn found<L: Language>(graph: &EGraph<L>, id: Id) -> Result<Option<AppliedId>, Er
 }
 
 // Returns the entry of a class: what `find` maps the class to, if the class is dead.
-fn entry_of<L: Language>(graph: &EGraph<L>, id: Id) -> Result<Option<AppliedId>, Error> {
+fn entry_of<L: Printable>(graph: &EGraph<L>, id: Id) -> Result<Option<AppliedId>, Error> {
     if graph.is_alive(id) {
         return Ok(None);
     }
@@ -48,7 +48,7 @@ impl PlainFind {
     }
 
     // Keeps what `find` maps a class to, if the class has died since its entry was read.
-    fn keep<L: Language>(&mut self, graph: &EGraph<L>, i: usize) -> Result<(), Error> {
+    fn keep<L: Printable>(&mut self, graph: &EGraph<L>, i: usize) -> Result<(), Error> {
         if i >= self.entries.len() {
             self.entries.push(entry_of(graph, Id(i))?)?;
         } else if self.entries[i].is_none() {
@@ -58,7 +58,7 @@ impl PlainFind {
     }
 
     /// Keeps what `find` maps dead classes to. An entry that stands never changes.
-    pub fn follow<L: Language>(&mut self, graph: &EGraph<L>) -> Result<(), Error> {
+    pub fn follow<L: Printable>(&mut self, graph: &EGraph<L>) -> Result<(), Error> {
         for i in 0..graph.progress().number_of_classes {
             self.keep(graph, i)?;
         }
@@ -81,7 +81,7 @@ impl PlainFind {
     }
 
     // Returns whether both finds answer the same for a class. A number that is no class of the graph has no answer.
-    fn agrees_on<L: Language>(
+    fn agrees_on<L: Printable>(
         &self,
         alloc: Global,
         graph: &EGraph<L>,
@@ -97,7 +97,7 @@ impl PlainFind {
     }
 
     /// Returns whether both finds answer the same for each class.
-    pub fn agrees<L: Language>(&self, alloc: Global, graph: &EGraph<L>) -> Result<bool, Error> {
+    pub fn agrees<L: Printable>(&self, alloc: Global, graph: &EGraph<L>) -> Result<bool, Error> {
         for i in 0..self.entries.len() {
             if !self.agrees_on(alloc, graph, Id(i))? {
                 return Ok(false);
