@@ -7,6 +7,7 @@ use slotted_questions::graphs::{parted, put};
 use slotted_slots::{AppliedId, Error, SlotTable};
 use slotted_terms::expr::RecExpr;
 use slotted_terms::expr::printing::Printable;
+use slotted_terms::flat::flatten;
 use std::alloc::Global;
 use std::process::Abort;
 
@@ -66,7 +67,28 @@ fn with_fresh(alloc: Global, text: &str) -> Result<String, Error> {
     Ok(text.replace(alloc, slot.as_str(), "$fk")?)
 }
 
-// Returns the text of the extracted term, with `$fk` for its first fresh slot.
+// Returns whether each child id inside an e-node is null.
+fn has_null_ids<L: Language>(alloc: Global, node: &L) -> bool {
+    let null = AppliedId::null(alloc);
+    for k in 0..node.applied_id_count() {
+        if *node.applied_id(k) != null {
+            return false;
+        }
+    }
+    true
+}
+
+// Returns whether all child ids inside the e-nodes of a term are null. No clause of extraction speaks of them.
+fn has_only_nulls<L: Language>(alloc: Global, term: &RecExpr<L>) -> Result<bool, Error> {
+    for flat in flatten(alloc, term)?.iter() {
+        if !has_null_ids(alloc, &flat.node) {
+            return Ok(false);
+        }
+    }
+    Ok(true)
+}
+
+// Returns the text of the extracted term, with `$fk` for its first fresh slot. A term with a child id inside has none.
 fn given_text<L: Printable, F: CostFunction<L> + Default>(
     alloc: Global,
     graph: &mut EGraph<L>,
@@ -75,6 +97,9 @@ fn given_text<L: Printable, F: CostFunction<L> + Default>(
     id: &AppliedId,
 ) -> Result<String, Error> {
     let term = given(alloc, graph, extractor, word, id)?;
+    if !has_only_nulls(alloc, &term)? {
+        return Err(Error::NotATerm);
+    }
     let text = term.text(alloc, graph.table())?;
     with_fresh(alloc, text.as_str())
 }
