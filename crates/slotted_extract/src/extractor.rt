@@ -4,7 +4,7 @@ ghost use Rattle.slotted_slots.specs.Error.{IsOutOfMemory, IsShortage};
 ghost use Rattle.slotted_slots.specs.Maps.{values};
 ghost use Rattle.slotted_terms.specs.Valid.{IsValidTerm};
 ghost use Rattle.std.specs.Ordering.{nat_cmp};
-ghost use Rattle.slotted_costs.specs.Costs.{costs_by, MayRefuse};
+ghost use Rattle.slotted_costs.specs.Costs.{costs_by, cost_of_term, MayRefuse};
 ghost use Rattle.slotted_costs.specs.Size.{size_cost};
 ghost use Rattle.slotted_proofs.specs.Equations.{to_applied};
 ghost use Rattle.slotted_graph.specs.Graph.{OnlyTakesSlots};
@@ -138,6 +138,36 @@ pub fn extract<L: Language, N: Analysis<L>, CF: CostFunction<L> + Default>(
 {
     let extractor: Extractor<L, CF> = Extractor::new(alloc, eg, CF::default())?;
     extractor.extract(i, eg)
+}
+
+/// Returns the least cost of a term that an id represents, by a cost function, and a term that has it.
+pub fn extract_by<L: Language, N: Analysis<L>, CF: CostFunction<L>>(
+    alloc: Global,
+    i: &AppliedId,
+    eg: &mut EGraph<L, N>,
+    costs: CF,
+) -> Result<(CF::Cost, RecExpr<L>), Error>
+    requires { IsTrue eg.old.failed ⊎ IsValidId eg.old (to_applied i.now) }
+    ensures least { IfOk result
+        (λ p. IsLeastTerm eg.old (costs_by CF.Cost.cmp (CF.node_cost costs)) (to_applied i.now) p.1) }
+    ensures chosen { IfOk result
+        (λ p. IsOfChosen L.form L.cmp eg.old (costs_by CF.Cost.cmp (CF.node_cost costs)) (to_applied i.now) p.1) }
+    ensures cost { IfOk result (λ p. p.0 ≡ cost_of_term (costs_by CF.Cost.cmp (CF.node_cost costs)) p.1) }
+    ensures valid { IfOk result (λ p. IsValidTerm eg.new.table p.1) }
+    ensures fresh { IfOk result (λ p. IsFreshTerm eg.old.table (values i.now.m) p.1) }
+    ensures takes { OnlyTakesSlots eg.old eg.new }
+    ensures count { (eg.new ≡ eg.old)
+        ⊎ MakesForLeast L.form (costs_by CF.Cost.cmp (CF.node_cost costs)) (to_applied i.now) eg.old eg.new }
+    ensures stays { IsTrue eg.old.failed → eg.new ≡ eg.old }
+    ensures failed { IsErrOf result Error.Failed ↔ IsTrue eg.old.failed }
+    ensures full { IsErrOf result Error.OutOfSlots → MayRefuse CF.refuses Error.OutOfSlots
+        ⊎ RunsOutForLeast L.form (costs_by CF.Cost.cmp (CF.node_cost costs)) (to_applied i.now) eg.old eg.new }
+    ensures only { IfErr result (λ e. (e ≡ Error.Failed) ⊎ (IsShortage e ⊎ MayRefuse CF.refuses e)) }
+{
+    let extractor: Extractor<L, CF> = Extractor::new(alloc, eg, costs)?;
+    let term = extractor.extract(i, eg)?;
+    let cost = extractor.costs.cost_rec(alloc, &term)?;
+    Ok((cost, term))
 }
 
 /// Returns a term of the fewest e-nodes that an id represents.

@@ -3,5 +3,5 @@
 
 pub mod extractor;
 
-pub use extractor::{Extractor, ast_size_extract, extract};
+pub use extractor::{Extractor, ast_size_extract, extract, extract_by};
 pub use slotted_costs::{AstSize, CostFunction};

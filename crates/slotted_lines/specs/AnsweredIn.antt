@@ -37,7 +37,7 @@ pub record IsRuleRead {L : Type 0} (form : L → Form) (read : List Element → 
 
 pub data IsRuleRefused {L : Type 0} (form : L → Form) (read : List Element → Option Form) (g h : Graph) (left right : List ℕ) (e : Error) : Type 0 where
   had_failed : IsTrue g.failed → h ≡ g → e ≡ Failed → IsRuleRefused form read g h left right e
-  texts_refused : g.failed ≡ false → AreRefused form read g.table h.table left right e → OnlyReads g h → IsRuleRefused form read g h left right e
+  texts_refused : g.failed ≡ false → AreRefused form read g.table h.table left right [] e → OnlyReads g h → IsRuleRefused form read g h left right e
 
 -- the rule comes last, or the rules are those that there were
 abbrev pub RuleAnswers : {L : Type 0} → (L → Form) → (List Element → Option Form) → SessionState L → SessionState L → List ℕ → List ℕ → List ℕ → Result ⊤ Error → Type 0

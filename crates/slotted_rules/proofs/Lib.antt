@@ -8,3 +8,4 @@ pub mod LeftGraphs
 pub mod UnitedAnswers
 pub mod EqualInstances
 pub mod RuleOrigins
+pub mod ReadNames

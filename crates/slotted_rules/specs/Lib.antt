@@ -1,6 +1,7 @@
 -- The words of the clauses of rules.
 pub mod Asking
 pub mod TreeAnswers
+pub mod Reading
 pub mod Applying
 pub mod Rewriting
 pub mod WrittenLaws

@@ -1,13 +1,14 @@
 //! Written rules: a pattern, another pattern that becomes equal to it, and a condition.
-ghost use Rattle.std.specs.Prelude.{◌≡◌, ◌⊎◌, None, Some, false, string_bytes, IfOk, IfErr, IsTrue};
+ghost use Rattle.std.specs.Prelude.{◌≡◌, ◌⊎◌, [], None, Some, false, string_bytes, IfOk, IfErr, IsTrue};
 ghost use Rattle.slotted_slots.specs.Table.{KnowsMore};
 ghost use Rattle.slotted_patterns.specs.Known.{HasKnownNames};
 ghost use Rattle.slotted_patterns.specs.View.{tree_of};
 ghost use Rattle.slotted_rule_patterns.specs.Variables.{first_lacking, has_substitution};
 ghost use Rattle.slotted_rules.specs.Written.{AreRead, AreRefused, CanBeSearched, IsRule, IsRefusedRule};
-ghost use Rattle.slotted_rules.specs.Asking.{IsMissing};
+ghost use Rattle.slotted_rules.specs.Reading.{first_unread};
 
 use crate::condition::Always;
+use crate::reading::{ReadsNames, missing};
 use slotted_languages::Language;
 use slotted_patterns::Pattern;
 use slotted_rule_patterns::pattern::{first_lacking, has_substitution};
@@ -23,19 +24,9 @@ pub struct Rewrite<L: Language, C> {
     pub condition: C,
 }
 
-// Returns the error for a variable that stands on the right side alone.
-fn missing(alloc: Global, variable: &str) -> Error
-    ensures { IsMissing variable.now result }
-{
-    match String::from_str(alloc, variable) {
-        Ok(name) => Error::MissingVariable(name),
-        Err(_) => Error::OutOfMemory,
-    }
-}
-
-impl<L: Language, C: Drop> Rewrite<L, C> {
-    /// Returns the rule of two patterns. Two things are refused: a substitution on the left side, and a variable of the
-    /// right side that the left one lacks.
+impl<L: Language, C: ReadsNames> Rewrite<L, C> {
+    /// Returns the rule of two patterns. Three things are refused: a substitution on the left side, a variable of the
+    /// right side that the left one lacks, and a slot or a variable of the condition that the left one lacks.
     pub fn from_patterns(
         alloc: Global,
         name: &str,
@@ -46,7 +37,8 @@ impl<L: Language, C: Drop> Rewrite<L, C> {
         ensures rule { IfOk result (λ r. IsRule r name.now left right condition) }
         ensures searched { IfOk result (λ r. has_substitution (tree_of L.form left) ≡ false) }
         ensures known { IfOk result (λ r. first_lacking (tree_of L.form right) (tree_of L.form left) ≡ None) }
-        ensures err { IfErr result (IsRefusedRule (tree_of L.form left) (tree_of L.form right)) }
+        ensures asked { IfOk result (λ r. first_unread (tree_of L.form left) (C.reads condition) ≡ None) }
+        ensures err { IfErr result (IsRefusedRule (tree_of L.form left) (tree_of L.form right) (C.reads condition)) }
     {
         if has_substitution(&left) {
             return Err(Error::SubstInSearch);
@@ -54,6 +46,7 @@ impl<L: Language, C: Drop> Rewrite<L, C> {
         if let Some(variable) = first_lacking(&right, &left) {
             return Err(missing(alloc, variable));
         }
+        condition.test_names(alloc, &left)?;
         let name = String::from_str(alloc, name)?;
         Ok(Rewrite {
             name,
@@ -77,8 +70,10 @@ impl<L: Language, C: Drop> Rewrite<L, C> {
         ensures name { IfOk result (λ r. string_bytes r.name ≡ name.now) }
         ensures condition { IfOk result (λ r. r.condition ≡ condition) }
         ensures searched { IfOk result (CanBeSearched L.form table.new) }
+        ensures asked { IfOk result (λ r. first_unread (tree_of L.form r.left) (C.reads condition) ≡ None) }
         ensures more { KnowsMore table.old table.new }
-        ensures err { IfErr result (AreRefused L.form L.read table.old table.new left.now right.now) }
+        ensures err { IfErr result
+            (AreRefused L.form L.read table.old table.new left.now right.now (C.reads condition)) }
     {
         let searched = Pattern::parse(alloc, left, table)?;
         let made = Pattern::parse(alloc, right, table)?;
@@ -99,7 +94,7 @@ impl<L: Language> Rewrite<L, Always> {
         ensures name { IfOk result (λ r. string_bytes r.name ≡ name.now) }
         ensures searched { IfOk result (CanBeSearched L.form table.new) }
         ensures more { KnowsMore table.old table.new }
-        ensures err { IfErr result (AreRefused L.form L.read table.old table.new left.now right.now) }
+        ensures err { IfErr result (AreRefused L.form L.read table.old table.new left.now right.now []) }
     {
         Rewrite::new_if(alloc, name, left, right, Always, table)
     }

@@ -4,7 +4,8 @@ use slotted_analyses::Analysis;
 use slotted_graph::EGraph;
 use slotted_languages::Language;
 use slotted_rule_patterns::Subst;
-use slotted_rules::Cond;
+use slotted_patterns::Pattern;
+use slotted_rules::{Cond, ReadsNames};
 use slotted_slots::Error;
 use std::alloc::Global;
 
@@ -27,6 +28,16 @@ impl<L: Language, N: Analysis<L>> Cond<L, N> for FirstOnly {
 
     fn holds(&self, alloc: Global, s: &Subst, graph: &EGraph<L, N>) -> Result<bool, Error> {
         Ok(graph.asserted().len() == 0)
+    }
+}
+
+impl ReadsNames for FirstOnly {
+    ghost use Rattle.std.specs.Prelude.{[]};
+
+    ghost reads = { λ _. [] };
+
+    fn test_names<L: Language>(&self, alloc: Global, left: &Pattern<L>) -> Result<(), Error> {
+        Ok(())
     }
 }
 
@@ -53,5 +64,15 @@ impl<L: Language, N: Analysis<L>> Cond<L, N> for RefusesLater {
         } else {
             Err(Error::NotATerm)
         }
+    }
+}
+
+impl ReadsNames for RefusesLater {
+    ghost use Rattle.std.specs.Prelude.{[]};
+
+    ghost reads = { λ _. [] };
+
+    fn test_names<L: Language>(&self, alloc: Global, left: &Pattern<L>) -> Result<(), Error> {
+        Ok(())
     }
 }

@@ -79,5 +79,5 @@ returns-clause-err g c =
     let q = c.in_ok-made.made in
     let well = unfailed p t.failed c.in_ok-searched.ensures.failed in
     let still = c.in_ok-searched.ensures.reads.failed ∙ well in
-    IfErr-weaker c.from_patterns.result (IsRefusedRule (tree_of form p) (tree_of form q)) (IsRuleRefused form g.L.LanguageChildren.read t v c.args.left.now c.args.right.now)
+    IfErr-weaker c.from_patterns.result (IsRefusedRule (tree_of form p) (tree_of form q) []) (IsRuleRefused form g.L.LanguageChildren.read t v c.args.left.now c.args.right.now)
     (λ e r. texts_refused well (rule_refused u.table p q (c.in_ok-searched.ensures.answer well) (c.in_ok-made.ensures.answer still) r) (reads_twice t u v c.in_ok-searched.ensures.reads c.in_ok-made.ensures.reads)) c.from_patterns.ensures.err

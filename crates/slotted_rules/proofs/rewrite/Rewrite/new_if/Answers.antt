@@ -6,6 +6,7 @@ use Rattle.slotted_languages.proofs.HandedOn.{handed_err}
 use Rattle.slotted_patterns.specs.Known.{HasKnownNames}
 use Rattle.slotted_patterns.specs.View.{tree_of}
 use Rattle.slotted_rule_patterns.specs.Variables.{first_lacking, has_substitution}
+use Rattle.slotted_rules.specs.Reading.{first_unread}
 use Rattle.slotted_rules.specs.Written.{AreRefused, CanBeSearched, IsRule, IsRefusedRule, ReadsAs, right_refused, rule_refused}
 use Rattle.slotted_graph.proofs.KnownPatterns.{pattern-later}
 use Rattle.slotted_rules.proofs.rewrite.Rewrite.new_if.Goals as goal
@@ -13,6 +14,10 @@ use Rattle.slotted_rules.proofs.rewrite.Rewrite.new_if.Goals as goal
 three_ok : {A E : Type 0} (r : Result A E) (P Q R S : A → Type 0) → ((x : A) → P x → Q x → R x → S x) → IfOk r P → IfOk r Q → IfOk r R → IfOk r S
 three_ok (Ok x) P Q R S h p q s = h x p q s
 three_ok (Err e) P Q R S h p q s = tt
+
+two_ok : {A E : Type 0} (r : Result A E) (P Q S : A → Type 0) → ((x : A) → P x → Q x → S x) → IfOk r P → IfOk r Q → IfOk r S
+two_ok (Ok x) P Q S h p q = h x p q
+two_ok (Err e) P Q S h p q = tt
 
 pub returns-in_err-made-clause-err : goal.returns-in_err-made-clause-err
 returns-in_err-made-clause-err g c =
@@ -22,7 +27,7 @@ returns-in_err-made-clause-err g c =
     let u = c.parse.new.table in
     let v = c.parse-2.new.table in
     let e = c.in_err-made.field-0.0 in
-    handed_err c.from_residual-in_err-made.result e c.from_residual-in_err-made.ensures.1 (AreRefused form read t v c.args.left.now c.args.right.now)
+    handed_err c.from_residual-in_err-made.result e c.from_residual-in_err-made.ensures.1 (AreRefused form read t v c.args.left.now c.args.right.now (g.C.ReadsNames.reads c.args.condition))
     (right_refused u c.in_ok-searched.searched c.in_ok-searched.ensures.answer c.in_err-made.ensures.answer)
 
 pub returns-clause-read : goal.returns-clause-read
@@ -59,5 +64,13 @@ returns-clause-err g c =
     let form = g.L.LanguageChildren.form in
     let read = g.L.LanguageChildren.read in
     let u = c.parse.new.table in
-    IfErr-weaker c.from_patterns.result (IsRefusedRule (tree_of form c.in_ok-searched.searched) (tree_of form c.in_ok-made.made)) _
+    IfErr-weaker c.from_patterns.result (IsRefusedRule (tree_of form c.in_ok-searched.searched) (tree_of form c.in_ok-made.made) (g.C.ReadsNames.reads c.args.condition)) _
     (λ e r. rule_refused u c.in_ok-searched.searched c.in_ok-made.made c.in_ok-searched.ensures.answer c.in_ok-made.ensures.answer r) c.from_patterns.ensures.err
+
+pub returns-clause-asked : goal.returns-clause-asked
+returns-clause-asked g c =
+    let form = g.L.LanguageChildren.form in
+    let names = g.C.ReadsNames.reads c.args.condition in
+    let p = c.in_ok-searched.searched in
+    two_ok c.from_patterns.result (λ r. IsRule r c.args.name.now p c.in_ok-made.made c.args.condition) (λ r. first_unread (tree_of form p) names ≡ None) (λ r. first_unread (tree_of form r.left) names ≡ None)
+    (λ r is none. ap (λ x. first_unread (tree_of form x) names) is.left_is ∙ none) c.from_patterns.ensures.rule c.from_patterns.ensures.asked
