@@ -7,4 +7,5 @@ pub mod Rules
 pub mod Explanations
 pub mod Extractions
 pub mod Runs
+pub mod Turns
 pub mod Methods

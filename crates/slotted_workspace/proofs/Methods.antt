@@ -116,12 +116,12 @@ module _ {L : Type 0} (form : L → Form) (n : ℕ) (g : Graph) (kept : List (Ke
           rest = (λ i. record { number = n; graph = h; terms = terms_of kept; rules = all i }) ∙ (λ i. record (is i) { graph = h; rules = (is i).rules ++ rule_of form r ∷ [] });
         }
 
-    pub rule-refused : (e : Error) → RuleRefused form read g h left right e → Refuses s (seen form n h kept rules) (RuleRefused form read s.graph h left right) (refusal.Graph e)
-    rule-refused e r = (subst (λ (x : Space). RuleRefused form read x.graph h left right e) is r, changes h)
+    pub rule-refused : (e : Error) → RuleRefused form read g h left right condition e → Refuses s (seen form n h kept rules) (RuleRefused form read s.graph h left right condition) (refusal.Graph e)
+    rule-refused e r = (subst (λ (x : Space). RuleRefused form read x.graph h left right condition e) is r, changes h)
 
-    pub rule-not_kept : (r : Rewrite L CondTree) (now : List (Rewrite L CondTree)) → now ≡ rules → ReadsRule form read g h name left right condition r → Refuses s (seen form n h kept now) (RuleRefused form read s.graph h left right) (refusal.Graph OutOfMemory)
+    pub rule-not_kept : (r : Rewrite L CondTree) (now : List (Rewrite L CondTree)) → now ≡ rules → ReadsRule form read g h name left right condition r → Refuses s (seen form n h kept now) (RuleRefused form read s.graph h left right condition) (refusal.Graph OutOfMemory)
     rule-not_kept r now same reads =
-        subst (λ (l : List (Rewrite L CondTree)). Refuses s (seen form n h kept l) (RuleRefused form read s.graph h left right) (refusal.Graph OutOfMemory)) (sym same) (rule-refused OutOfMemory (asked.RuleRefused.not_kept reads.well reads.only refl))
+        subst (λ (l : List (Rewrite L CondTree)). Refuses s (seen form n h kept l) (RuleRefused form read s.graph h left right condition) (refusal.Graph OutOfMemory)) (sym same) (rule-refused OutOfMemory (asked.RuleRefused.not_kept reads.well reads.only refl))
 
 -- the rules of a workspace can be run
 pub can-run : {L : Type 0} (form : L → Form) (g : Graph) (kept : List (Kept L)) (rules read : List (Rewrite L CondTree)) → read ≡ rules → IsSane form g kept rules → IsTrue g.failed ⊎ All (CanBeSearched form g.table) read

@@ -14,6 +14,7 @@ use Rattle.slotted_operations.specs.Graph.{Graph, OnlyReads}
 use Rattle.slotted_operations.specs.Reads.{AnswersPattern}
 use Rattle.slotted_explain.proofs.CallerLemmas.{reads_twice}
 use Rattle.slotted_graph.proofs.KnownPatterns.{pattern-later}
+use Rattle.slotted_rules.specs.Reading.{first_unread, tree_reads}
 use Rattle.slotted_rules.specs.Written.{CanBeSearched, IsRefusedRule, IsRule, ReadsAs, left_refused, right_refused, rule_refused}
 use Rattle.slotted_rules.specs.declared.condition_tree.CondTree.{CondTree}
 use Rattle.slotted_rules.specs.declared.rewrite.Rewrite.{Rewrite}
@@ -23,10 +24,10 @@ use Rattle.slotted_workspace.specs.Asked as asked
 
 module _ {L : Type 0} (form : L → Form) (read : List Element → Option Form) (g h : Graph) (left right : List ℕ) (reads : OnlyReads g h) where
   -- the left text was refused
-  pub left-refused : (e : Error) → (IsErrOf {T = Pattern L} (Err e) Failed ↔ IsTrue g.failed) → (IsTrue g.failed → h ≡ g) → AnswersPattern form read g h left (Err e) → RuleRefused form read g h left right e
-  left-refused e failed stays answer = by g.failed refl
+  pub left-refused : {condition : CondTree} (e : Error) → (IsErrOf {T = Pattern L} (Err e) Failed ↔ IsTrue g.failed) → (IsTrue g.failed → h ≡ g) → AnswersPattern form read g h left (Err e) → RuleRefused form read g h left right condition e
+  left-refused {condition} e failed stays answer = by g.failed refl
     where
-      by : (b : Bool) → g.failed ≡ b → RuleRefused form read g h left right e
+      by : (b : Bool) → g.failed ≡ b → RuleRefused form read g h left right condition e
       by true f = asked.RuleRefused.had_failed (f, stays f, ap (error_or Failed) (failed.1 f))
       by false well = texts_refused well (left_refused (answer well)) reads
 
@@ -38,13 +39,13 @@ module _ {L : Type 0} (form : L → Form) (read : List Element → Option Form) 
   still : u.failed ≡ false
   still = one.failed ∙ well
 
-  pub right-refused : (e : Error) → AnswersPattern form read u v right (Err e) → RuleRefused form read t v left right e
+  pub right-refused : {condition : CondTree} (e : Error) → AnswersPattern form read u v right (Err e) → RuleRefused form read t v left right condition e
   right-refused e second = texts_refused well (right_refused u.table p (first well) (second still)) (reads_twice t u v one two)
 
   -- and the right one as the pattern q
   module _ (q : Pattern L) (second : AnswersPattern form read u v right (Ok q)) where
-    pub reads-rule : (name : List ℕ) (condition : CondTree) (r : Rewrite L CondTree) → IsRule r name p q condition → ReadsRule form read t v name left right condition r
-    reads-rule name condition r is = record {
+    pub reads-rule : (name : List ℕ) (condition : CondTree) (r : Rewrite L CondTree) → IsRule r name p q condition → first_unread (tree_of form p) (tree_reads condition) ≡ None → ReadsRule form read t v name left right condition r
+    reads-rule name condition r is none = record {
       well = well;
       named = is.name_is;
       conditioned = is.condition_is;
@@ -53,10 +54,16 @@ module _ {L : Type 0} (form : L → Form) (read : List Element → Option Form) 
         left_read = subst (λ x. ReadsAs form read t.table u.table left (Ok x)) (sym is.left_is) (first well);
         right_read = subst (λ x. ReadsAs form read u.table v.table right (Ok x)) (sym is.right_is) (second still);
       };
+      asked = ap (λ x. first_unread (tree_of form x) (tree_reads condition)) is.left_is ∙ none;
       only = reads_twice t u v one two;
     }
 
-    pub rule-refused : (e : Error) → IsRefusedRule (tree_of form p) (tree_of form q) e → RuleRefused form read t v left right e
+    pub rule-read : (o : Result (Rewrite L CondTree) Error) (name : List ℕ) (condition : CondTree) → IfOk o (λ r. IsRule r name p q condition) →
+        IfOk o (λ r. first_unread (tree_of form p) (tree_reads condition) ≡ None) → IfOk o (ReadsRule form read t v name left right condition)
+    rule-read (Err e) name condition is none = tt
+    rule-read (Ok r) name condition is none = reads-rule name condition r is none
+
+    pub rule-refused : {condition : CondTree} (e : Error) → IsRefusedRule (tree_of form p) (tree_of form q) (tree_reads condition) e → RuleRefused form read t v left right condition e
     rule-refused e r = texts_refused well (rule_refused u.table p q (first well) (second still) r) (reads_twice t u v one two)
 
     pub searchable : HasKnownNames u.table (tree_of form p) → HasKnownNames v.table (tree_of form q) → (o : Result (Rewrite L CondTree) Error) (name : List ℕ) (condition : CondTree) → IfOk o (λ r. IsRule r name p q condition) → IfOk o (λ r. has_substitution (tree_of form p) ≡ false) → IfOk o (λ r. first_lacking (tree_of form q) (tree_of form p) ≡ None) → IfOk o (CanBeSearched form v.table)

@@ -6,25 +6,34 @@
 --     UnionRefused g h e         it was refused so
 --     AddsKept, AddRefused       a text was read, and its term was added, or this was refused
 --     ExplainsTerms, ExplainRefused     a printed proof that two terms are equal, or a refusal
---     ExtractsTerm, ExtractRefused      a printed term of least cost, or a refusal
+--     ExtractsBy, ExtractByRefused      a printed term of least cost by some costs, or a refusal
+--     ExtractsTerm, ExtractRefused      the same of the number of nodes
+--     ReadsPattern, PatternRefused      the pattern of a text, or a refusal
+--     HasMatches, SearchRefused  how many matches the pattern of a text has, or a refusal
+--     DrawRefused g h e          a picture, or a list of classes, was refused
 --     ReadsRule, RuleRefused     a rule of two texts, or a refusal
 --     ChangesGraph s v           from s to v the graph alone changes
 --     AddsTerm, KeepsRule        the same of a workspace, which keeps the term, or the rule
 --     Refuses, RefusesOne, RefusesBoth    a handle is unknown, and nothing changes; or the graph refused so, and it alone changed
-use Rattle.std.specs.Prelude.{◌≡◌, ◌⊎◌, ◌↔◌, ℕ, List, [], ◌∷◌, ◌++◌, length, map, Bool, false, Option, None, Some, IsTrue, String, string_bytes}
+use Rattle.std.specs.Prelude.{◌≡◌, ◌⊎◌, ◌↔◌, ℕ, List, [], ◌∷◌, ◌++◌, length, map, Bool, true, false, Option, None, Some, Ok, Err, IsTrue, String, string_bytes}
 use Rattle.std.specs.declared.alloc.Global.{Global}
 use Rattle.slotted_slots.specs.declared.error.Error.{Error}
-use Rattle.slotted_slots.specs.declared.error.Error.TheVariants.{OutOfMemory, OutOfSlots, Failed}
+use Rattle.slotted_slots.specs.declared.error.Error.TheVariants.{OutOfMemory, OutOfSlots, Failed, SubstInSearch}
 use Rattle.slotted_slots.specs.Error.{IsShortage}
 use Rattle.slotted_slots.specs.Naming.{IsNamingRefusal}
 use Rattle.slotted_slots.specs.Syntax.{Element}
 use Rattle.slotted_theory.specs.Term.{Term}
 use Rattle.slotted_theory.specs.Derives.{Derives, nameless_pair}
 use Rattle.slotted_nodes.specs.Form.{Form}
+use Rattle.slotted_patterns.specs.Known.{HasKnownNames}
+use Rattle.slotted_patterns.specs.View.{tree_of}
+use Rattle.slotted_patterns.specs.declared.pattern.Pattern.{Pattern}
+use Rattle.slotted_model_rules.specs.Conditions.{Values}
+use Rattle.slotted_rule_patterns.specs.Variables.{has_substitution}
 use Rattle.slotted_terms.specs.Shown.{term_text}
 use Rattle.slotted_terms.specs.Valid.{IsValidTerm}
 use Rattle.slotted_model.specs.Applied.{Applied}
-use Rattle.slotted_model.specs.Cost.{AtMost}
+use Rattle.slotted_model.specs.Cost.{AtMost, CostFunction}
 use Rattle.slotted_costs.specs.Costs.{cost_of_term}
 use Rattle.slotted_operations.specs.Affected.{AreAffected}
 use Rattle.slotted_operations.specs.Causes.{HasLargeClassIn}
@@ -33,8 +42,11 @@ use Rattle.slotted_operations.specs.Graph.{Graph, OnlyReads, OnlyTakesSlots, id_
 use Rattle.slotted_operations.specs.Image.{Image, FoundAlike, IsUnion, RecordsFilled, asserted_in}
 use Rattle.slotted_graph.specs.Extension.{ExtendsTo}
 use Rattle.slotted_graph.specs.LeastTerms.{IsLeastTerm, MakesForLeast, RunsOutForLeast}
+use Rattle.slotted_graph.specs.FiledNodes.{CanRunOutForDump}
 use Rattle.slotted_explain.specs.Printed.{IsProofText}
-use Rattle.slotted_rules.specs.Written.{AreRead, AreRefused}
+use Rattle.slotted_rules.specs.Reading.{first_unread, tree_reads}
+use Rattle.slotted_rules.specs.Rewriting.{IsSearched}
+use Rattle.slotted_rules.specs.Written.{AreRead, AreRefused, ReadsAs}
 use Rattle.slotted_rules.specs.declared.condition_tree.CondTree.{CondTree}
 use Rattle.slotted_rules.specs.declared.rewrite.Rewrite.{Rewrite}
 use Rattle.slotted_commands.specs.Explained.{ExplanationAnswers, Proves}
@@ -143,30 +155,67 @@ pub record ExplainsTerms (written : Term → List Element) (g h : Graph) (t u : 
 abbrev pub ExplainRefused : (Term → List Element) → Graph → Graph → Term → Term → Error → Type 0
 ExplainRefused written g h t u e = HadFailed g h e ⊎ ((g.failed ≡ false) × ExplanationAnswers written g t u h (Refused e))
 
--- the text is that of a term of the fewest nodes, which follows from what is asserted, and has no more nodes than the term itself
-pub record ExtractsTerm {L : Type 0} (form : L → Form) (written : Term → List Element) (g h : Graph) (t : Term) (cost : ℕ) (text : String Global) : Type 0 where
+-- the text is that of a term of least cost, which follows from what is asserted, and costs no more than the term itself
+pub record ExtractsBy {L C : Type 0} (form : L → Form) (written : Term → List Element) (costs : CostFunction C) (g h : Graph) (t : Term) (cost : C) (text : String Global) : Type 0 where
   pub well : g.failed ≡ false
   pub id : Applied
   pub is_id : id_of_term g t ≡ Some id
   pub term : Term
-  pub least : IsLeastTerm g sizes id term
-  pub size : cost ≡ cost_of_term sizes term
-  pub no_larger : AtMost sizes cost (cost_of_term sizes t)
+  pub least : IsLeastTerm g costs id term
+  pub size : cost ≡ cost_of_term costs term
+  pub no_larger : AtMost costs cost (cost_of_term costs t)
   pub follows : FollowsIn g.image t term
   pub known : IsValidTerm h.table term
   pub bytes : string_bytes text ≡ term_text written h.table term
   pub takes : OnlyTakesSlots g h
-  pub count : (h ≡ g) ⊎ MakesForLeast form sizes id g h
+  pub count : (h ≡ g) ⊎ MakesForLeast form costs id g h
 
-pub data ExtractRefused {L : Type 0} (form : L → Form) (g h : Graph) (t : Term) (e : Error) : Type 0 where
-  had_failed : HadFailed g h e → ExtractRefused form g h t e
-  extraction_ran_out : (id : Applied) → g.failed ≡ false → id_of_term g t ≡ Some id → IsShortage e → (e ≡ OutOfSlots → RunsOutForLeast form sizes id g h) → OnlyTakesSlots g h → ExtractRefused form g h t e
+-- the graph had failed, memory or slots ran out, or a cost was refused
+pub data ExtractByRefused {L C : Type 0} (form : L → Form) (costs : CostFunction C) (refuses : Error → Type 0) (g h : Graph) (t : Term) (e : Error) : Type 0 where
+  had_failed : HadFailed g h e → ExtractByRefused form costs refuses g h t e
+  extraction_ran_out : (id : Applied) → g.failed ≡ false → id_of_term g t ≡ Some id → IsShortage e → (e ≡ OutOfSlots → RunsOutForLeast form costs id g h) → OnlyTakesSlots g h → ExtractByRefused form costs refuses g h t e
+  cost_refused : g.failed ≡ false → refuses e → OnlyTakesSlots g h → ExtractByRefused form costs refuses g h t e
+
+abbrev pub ExtractsTerm : {L : Type 0} → (L → Form) → (Term → List Element) → Graph → Graph → Term → ℕ → String Global → Type 0
+ExtractsTerm form written = ExtractsBy form written sizes
+
+abbrev pub ExtractRefused : {L : Type 0} → (L → Form) → Graph → Graph → Term → Error → Type 0
+ExtractRefused form = ExtractByRefused form sizes (λ _. ⊥)
+
+-- the pattern is what the text reads as
+pub record ReadsPattern {L : Type 0} (form : L → Form) (read : List Element → Option Form) (g h : Graph) (text : List ℕ) (p : Pattern L) : Type 0 where
+  pub well : g.failed ≡ false
+  pub answer : ReadsAs form read g.table h.table text (Ok p)
+  pub known : HasKnownNames h.table (tree_of form p)
+  pub only : OnlyReads g h
+
+abbrev pub PatternRefused : {L : Type 0} → (L → Form) → (List Element → Option Form) → Graph → Graph → List ℕ → Error → Type 0
+PatternRefused {L} form read g h text e = HadFailed g h e ⊎ ((g.failed ≡ false) × ReadsAs {L = L} form read g.table h.table text (Err e) × OnlyReads g h)
+
+-- a search with the pattern of the text finds so many matches
+pub record HasMatches {L : Type 0} (form : L → Form) (read : List Element → Option Form) (g h : Graph) (text : List ℕ) (n : ℕ) : Type 0 where
+  pub pattern : Pattern L
+  pub between : Graph
+  pub reads : ReadsPattern form read g between text pattern
+  pub found : List Values
+  pub searched : IsSearched (tree_of form pattern) between found h
+  pub count : n ≡ length found
+
+-- the text was refused, or the search for its pattern
+pub data SearchRefused {L : Type 0} (form : L → Form) (read : List Element → Option Form) (g h : Graph) (text : List ℕ) (e : Error) : Type 0 where
+  text_refused : PatternRefused form read g h text e → SearchRefused form read g h text e
+  search_refused : (p : Pattern L) (between : Graph) → ReadsPattern form read g between text p → OnlyTakesSlots between h →
+      ((e ≡ SubstInSearch) × (has_substitution (tree_of form p) ≡ true)) ⊎ IsShortage e → SearchRefused form read g h text e
+
+abbrev pub DrawRefused : Graph → Graph → Error → Type 0
+DrawRefused g h e = HadFailed g h e ⊎ ((g.failed ≡ false) × IsShortage e × (e ≡ OutOfSlots → CanRunOutForDump g h.table))
 
 pub record ReadsRule {L : Type 0} (form : L → Form) (read : List Element → Option Form) (g h : Graph) (name left right : List ℕ) (condition : CondTree) (r : Rewrite L CondTree) : Type 0 where
   pub well : g.failed ≡ false
   pub named : string_bytes r.name ≡ name
   pub conditioned : r.condition ≡ condition
   pub are : AreRead form read g.table h.table left right r
+  pub asked : first_unread (tree_of form r.left) (tree_reads condition) ≡ None
   pub only : OnlyReads g h
 
 -- it comes last
@@ -176,7 +225,7 @@ pub record KeepsRule {L : Type 0} (form : L → Form) (read : List Element → O
   pub rest : v ≡ record s { graph = v.graph; rules = s.rules ++ rule_of form rule ∷ [] }
 
 -- a text was refused, or a rule of both, or there was no memory to keep it
-pub data RuleRefused {L : Type 0} (form : L → Form) (read : List Element → Option Form) (g h : Graph) (left right : List ℕ) (e : Error) : Type 0 where
-  had_failed : HadFailed g h e → RuleRefused form read g h left right e
-  texts_refused : g.failed ≡ false → AreRefused form read g.table h.table left right e → OnlyReads g h → RuleRefused form read g h left right e
-  not_kept : g.failed ≡ false → OnlyReads g h → e ≡ OutOfMemory → RuleRefused form read g h left right e
+pub data RuleRefused {L : Type 0} (form : L → Form) (read : List Element → Option Form) (g h : Graph) (left right : List ℕ) (condition : CondTree) (e : Error) : Type 0 where
+  had_failed : HadFailed g h e → RuleRefused form read g h left right condition e
+  texts_refused : g.failed ≡ false → AreRefused form read g.table h.table left right (tree_reads condition) e → OnlyReads g h → RuleRefused form read g h left right condition e
+  not_kept : g.failed ≡ false → OnlyReads g h → e ≡ OutOfMemory → RuleRefused form read g h left right condition e

@@ -3,3 +3,4 @@ pub mod Spaces
 pub mod Keeping
 pub mod Asked
 pub mod Runs
+pub mod Turns

@@ -4,17 +4,22 @@
 #![tactic(auto)]
 
 pub mod error;
+pub(crate) mod drawing;
 pub(crate) mod explaining;
 pub(crate) mod extracting;
 pub mod handle;
 pub(crate) mod kept;
+pub mod numbers;
 pub(crate) mod reading;
 pub(crate) mod running;
+pub(crate) mod searching;
+pub(crate) mod turning;
 pub(crate) mod uniting;
 pub mod workspace;
 
 pub use error::WorkspaceError;
 pub use extracting::Extracted;
 pub use handle::Handle;
+pub use numbers::WorkspaceNumbers;
 pub use running::Limits;
 pub use workspace::{SymmetryCount, Workspace};

@@ -5,11 +5,12 @@ ghost use Rattle.slotted_graph.specs.Extension.{ExtendsTo};
 ghost use Rattle.slotted_proofs.specs.Equations.{to_applied};
 ghost use Rattle.slotted_rules.specs.Written.{CanBeSearched};
 ghost use Rattle.slotted_terms.specs.Valid.{IsValidTerm};
-ghost use Rattle.slotted_workspace.specs.Asked.{AddsKept, AddRefused, ReadsRule, RuleRefused};
+ghost use Rattle.slotted_workspace.specs.Asked.{AddsKept, AddRefused, PatternRefused, ReadsPattern, ReadsRule, RuleRefused};
 
 use crate::kept::Kept;
 use slotted_explain::EGraph;
 use slotted_languages::Language;
+use slotted_patterns::Pattern;
 use slotted_rules::{CondTree, Rewrite};
 use slotted_slots::Error;
 use std::alloc::Global;
@@ -27,6 +28,19 @@ pub(crate) fn read_term<L: Language>(graph: &mut EGraph<L>, text: &str) -> Resul
     Ok(Kept { id, term })
 }
 
+/// Returns the pattern of a text.
+pub(crate) fn read_pattern<L: Language>(
+    graph: &mut EGraph<L>,
+    text: &str,
+) -> Result<Pattern<L>, Error>
+    ensures ok { IfOk result (ReadsPattern L.form L.read graph.old graph.new text.now) }
+    ensures err { IfErr result (PatternRefused L.form L.read graph.old graph.new text.now) }
+    ensures extends { IsTrue graph.new.failed ⊎ ExtendsTo graph.old graph.new }
+    ensures stays { IsTrue graph.old.failed → graph.new ≡ graph.old }
+{
+    graph.parse_pattern(text)
+}
+
 /// Returns the rule of two texts. Both are read over the graph's table, the left one first.
 pub(crate) fn read_rule<L: Language>(
     alloc: Global,
@@ -39,7 +53,7 @@ pub(crate) fn read_rule<L: Language>(
     ensures ok { IfOk result
         (ReadsRule L.form L.read graph.old graph.new name.now left.now right.now condition) }
     ensures searched { IfOk result (CanBeSearched L.form graph.new.table) }
-    ensures err { IfErr result (RuleRefused L.form L.read graph.old graph.new left.now right.now) }
+    ensures err { IfErr result (RuleRefused L.form L.read graph.old graph.new left.now right.now condition) }
     ensures extends { IsTrue graph.new.failed ⊎ ExtendsTo graph.old graph.new }
     ensures stays { IsTrue graph.old.failed → graph.new ≡ graph.old }
 {

@@ -1,27 +1,38 @@
 //! The workspace.
-ghost use Rattle.std.specs.Prelude.{◌≡◌, ◌⊎◌, ◌++◌, [], ◌∷◌, None, Some, length, IsOk, IfOk, IfErr, IsTrue, OnOk};
+ghost use Rattle.std.specs.Prelude.{◌≡◌, ◌⊎◌, ◌++◌, ◌+◌, ◌-◌, ◌^◌, [], ◌∷◌, None, Some, length, IsOk, IfOk, IfErr, IsTrue, OnOk};
 ghost use Rattle.slotted_operations.specs.Image.{CountsOpen};
-ghost use Rattle.slotted_operations.specs.Graph.{OnlyReads};
+ghost use Rattle.slotted_costs.specs.Costs.{costs_by};
+ghost use Rattle.slotted_operations.specs.Graph.{OnlyReads, OnlyTakesSlots};
 ghost use Rattle.slotted_workspace.specs.Asked.{AddsKept, AddRefused, ChangesGraph, Compares, ExplainsTerms};
 ghost use Rattle.slotted_workspace.specs.Asked.{ExplainRefused, ExtractsTerm, ExtractRefused, HadFailed};
 ghost use Rattle.slotted_workspace.specs.Asked.{OfBoth, OfOne, Refuses, RefusesBoth, RefusesOne, UnitesTerms};
 ghost use Rattle.slotted_slots.specs.Table.{gives, named_of};
 ghost use Rattle.slotted_workspace.specs.Asked.{NamingRefused, UnionRefused, AddsTerm, KeepsRule, RuleRefused};
+ghost use Rattle.slotted_workspace.specs.Asked.{DrawRefused, ExtractsBy, ExtractByRefused};
+ghost use Rattle.slotted_workspace.specs.Asked.{HasMatches, PatternRefused, ReadsPattern, SearchRefused};
 ghost use Rattle.slotted_workspace.specs.Runs.{HasRun, OfRules, RunRefused};
 ghost use Rattle.slotted_workspace.specs.Spaces.{empty_space, term_at};
+ghost use Rattle.slotted_workspace.specs.Turns.{TakesTurn, TurnRefused};
 
 use crate::error::WorkspaceError;
 use crate::explaining::explanation;
-use crate::extracting::{Extracted, smallest};
+use crate::drawing::{dumped, drawn};
+use crate::extracting::{Extracted, cheapest};
 use crate::handle::Handle;
 use crate::kept::{Kept, both_at, kept_at};
-use crate::reading::{read_rule, read_term};
+use crate::numbers::WorkspaceNumbers;
+use crate::reading::{read_pattern, read_rule, read_term};
 use crate::running::{Limits, run_rules};
+use crate::searching::count_found;
+use crate::turning::take_turn;
 use crate::uniting::{unite, unite_because};
+use slotted_costs::{AstSize, CostFunction};
 use slotted_explain::EGraph;
 use slotted_languages::Language;
-use slotted_rules::{CondTree, Rewrite};
+use slotted_patterns::Pattern;
+use slotted_rules::{CondTree, Rewrite, TurnCounts};
 use slotted_runs::Report;
+use slotted_slots::Error as GraphError;
 use slotted_slots::{Slot, SlotTable};
 use slotted_terms::expr::RecExpr;
 use slotted_terms::expr::printing::Printable;
@@ -31,8 +42,8 @@ use std::marker::Model;
 /// A graph, its rules, and the terms that were added, each named by a handle.
 ///
 /// No call has a condition. A handle that is too large, or that belongs to a workspace with another number, is refused,
-/// and nothing changes. Give different numbers to workspaces that live at the same time. A handle of another workspace
-/// with the same number stands for this one's own term.
+/// and nothing changes. Workspaces made by [`numbered`](Workspace::numbered) from one source have different numbers. Those
+/// made by [`new`](Workspace::new) all have the number 0, so they do not tell their handles apart.
 #[derive(Drop)]
 pub struct Workspace<L: Language> {
     number: u64,
@@ -64,7 +75,8 @@ pub struct SymmetryCount {
 }
 
 impl<L: Language> Workspace<L> {
-    /// Returns a workspace with the number 0, without terms and rules. Takes no memory.
+    /// Returns a workspace with the number 0, without terms and rules. Takes no memory. If several workspaces live at the
+    /// same time, make them by `numbered`.
     pub fn new(alloc: Global) -> Result<Self, WorkspaceError>
         ensures answers { IsOk result }
         ensures empty { IfOk result (λ w. w ≡ empty_space 0) }
@@ -85,6 +97,21 @@ impl<L: Language> Workspace<L> {
             rules: Vec::new(alloc),
             alloc,
         })
+    }
+
+    /// Returns a workspace with the next number of a source, which tells its handles from those of every other workspace
+    /// of that source.
+    pub fn numbered(
+        alloc: Global,
+        numbers: &mut WorkspaceNumbers,
+    ) -> Result<Self, WorkspaceError>
+        ensures empty { IfOk result (λ w. w ≡ empty_space numbers.old) }
+        ensures next { OnOk result (numbers.new ≡ numbers.old + 1) }
+        ensures err { IfErr result
+            (λ e. (e ≡ WorkspaceError.Graph GraphError.OutOfSlots) × (numbers.old ≡ 2 ^ 64 - 1)) }
+    {
+        let number = numbers.take()?;
+        Self::with_number(alloc, number)
     }
 
     /// Returns the graph.
@@ -165,7 +192,7 @@ impl<L: Language> Workspace<L> {
         ensures ok { OnOk result
             (KeepsRule L.form L.read self.old self.new name.now left.now right.now CondTree.Always) }
         ensures err { IfErr result (Refuses self.old self.new
-            (RuleRefused L.form L.read self.old.graph self.new.graph left.now right.now)) }
+            (RuleRefused L.form L.read self.old.graph self.new.graph left.now right.now CondTree.Always)) }
     {
         self.rule_if(name, left, right, CondTree::Always)
     }
@@ -181,7 +208,7 @@ impl<L: Language> Workspace<L> {
         ensures ok { OnOk result
             (KeepsRule L.form L.read self.old self.new name.now left.now right.now condition) }
         ensures err { IfErr result (Refuses self.old self.new
-            (RuleRefused L.form L.read self.old.graph self.new.graph left.now right.now)) }
+            (RuleRefused L.form L.read self.old.graph self.new.graph left.now right.now condition)) }
     {
         let rule = read_rule(self.alloc, &mut self.graph, name, left, right, condition)?;
         self.rules.push(rule)?;
@@ -208,6 +235,54 @@ impl<L: Language> Workspace<L> {
             (λ rules. RunRefused L.form rules limits.turns limits.nodes self.old.graph self.new.graph e))) }
     {
         Ok(run_rules(self.alloc, &mut self.graph, &self.rules, limits)?)
+    }
+
+    /// Applies all rules once, and returns what each of them found and united. So a caller can tell the progress of a
+    /// run, and stop at limits of its own.
+    pub fn turn(&mut self) -> Result<TurnCounts, WorkspaceError>
+        ensures ok { IfOk result (λ t. OfRules L.form self.old
+            (λ rules. TakesTurn L.form rules self.old.graph self.new.graph t)) }
+        ensures rest { OnOk result (ChangesGraph self.old self.new) }
+        ensures err { IfErr result (Refuses self.old self.new (λ e. OfRules L.form self.old
+            (λ rules. TurnRefused L.form rules self.old.graph self.new.graph e))) }
+    {
+        Ok(take_turn(self.alloc, &mut self.graph, &self.rules)?)
+    }
+
+    /// Returns the pattern of a text, to be tested before the text is added or becomes a rule.
+    pub fn pattern(&mut self, text: &str) -> Result<Pattern<L>, WorkspaceError>
+        ensures ok { IfOk result (ReadsPattern L.form L.read self.old.graph self.new.graph text.now) }
+        ensures rest { OnOk result (ChangesGraph self.old self.new) }
+        ensures err { IfErr result (Refuses self.old self.new
+            (PatternRefused L.form L.read self.old.graph self.new.graph text.now)) }
+    {
+        Ok(read_pattern(&mut self.graph, text)?)
+    }
+
+    /// Returns how many matches the pattern of a text has.
+    pub fn count_matches(&mut self, text: &str) -> Result<usize, WorkspaceError>
+        ensures ok { IfOk result (HasMatches L.form L.read self.old.graph self.new.graph text.now) }
+        ensures rest { OnOk result (ChangesGraph self.old self.new) }
+        ensures err { IfErr result (Refuses self.old self.new
+            (SearchRefused L.form L.read self.old.graph self.new.graph text.now)) }
+    {
+        Ok(count_found(self.alloc, &mut self.graph, text)?)
+    }
+
+    /// Returns a picture of the graph in the DOT language, as `graph_to_dot` of slotted_pictures draws it.
+    pub fn picture(&mut self) -> Result<String, WorkspaceError>
+        ensures rest { OnOk result (ChangesGraph self.old self.new × OnlyTakesSlots self.old.graph self.new.graph) }
+        ensures err { IfErr result (Refuses self.old self.new (DrawRefused self.old.graph self.new.graph)) }
+    {
+        Ok(drawn(self.alloc, &mut self.graph)?)
+    }
+
+    /// Returns the live classes and their e-nodes as text, as `dump` of a graph has them.
+    pub fn dump(&mut self) -> Result<String, WorkspaceError>
+        ensures rest { OnOk result (ChangesGraph self.old self.new × OnlyTakesSlots self.old.graph self.new.graph) }
+        ensures err { IfErr result (Refuses self.old self.new (DrawRefused self.old.graph self.new.graph)) }
+    {
+        Ok(dumped(self.alloc, &mut self.graph)?)
     }
 
     /// Returns how many symmetries the unions met, and how many of them are open.
@@ -239,14 +314,29 @@ impl<L: Printable> Workspace<L> {
     }
 
     /// Returns a term of the fewest e-nodes that is equal to the handle's term, and its number of e-nodes.
-    pub fn extract(&mut self, a: Handle) -> Result<Extracted, WorkspaceError>
+    pub fn extract(&mut self, a: Handle) -> Result<Extracted<u64>, WorkspaceError>
         ensures ok { IfOk result (λ x. OfOne self.old a
             (λ t. ExtractsTerm L.form L.written self.old.graph self.new.graph t x.cost x.text)) }
         ensures rest { OnOk result (ChangesGraph self.old self.new) }
         ensures err { IfErr result (RefusesOne self.old self.new a
             (ExtractRefused L.form self.old.graph self.new.graph)) }
     {
+        self.extract_by(a, AstSize)
+    }
+
+    /// Returns a term of least cost that is equal to the handle's term, and its cost, by a cost function.
+    pub fn extract_by<C: CostFunction<L>>(
+        &mut self,
+        a: Handle,
+        costs: C,
+    ) -> Result<Extracted<C::Cost>, WorkspaceError>
+        ensures ok { IfOk result (λ x. OfOne self.old a (λ t. ExtractsBy L.form L.written
+            (costs_by C.Cost.cmp (C.node_cost costs)) self.old.graph self.new.graph t x.cost x.text)) }
+        ensures rest { OnOk result (ChangesGraph self.old self.new) }
+        ensures err { IfErr result (RefusesOne self.old self.new a (ExtractByRefused L.form
+            (costs_by C.Cost.cmp (C.node_cost costs)) C.refuses self.old.graph self.new.graph)) }
+    {
         let kept = kept_at(&self.kept, self.number, a)?;
-        Ok(smallest(self.alloc, &mut self.graph, kept)?)
+        Ok(cheapest(self.alloc, &mut self.graph, kept, costs)?)
     }
 }

@@ -3,9 +3,10 @@ use Rattle.std.proofs.lemmas.Result.{IfErr-weaker, IfOk-weaker, err_from_is_err_
 use Rattle.slotted_patterns.specs.View.{tree_of}
 use Rattle.slotted_explain.proofs.CallerLemmas.{reads_twice}
 use Rattle.slotted_graph.proofs.Extending.{extends-read}
+use Rattle.slotted_rules.specs.Reading.{tree_reads}
 use Rattle.slotted_rules.specs.Written.{IsRefusedRule, IsRule}
 use Rattle.slotted_workspace.specs.Asked.{ReadsRule, RuleRefused}
-use Rattle.slotted_workspace.proofs.Rules.{left-refused, reads-rule, right-refused, rule-refused, searchable}
+use Rattle.slotted_workspace.proofs.Rules.{left-refused, right-refused, rule-read, rule-refused, searchable}
 use Rattle.slotted_workspace.proofs.Saying.{well-answered}
 use Rattle.slotted_workspace.proofs.reading.read_rule.Goals as goal
 
@@ -37,8 +38,8 @@ returns-clause-ok g c =
     let form = g.L.LanguageChildren.form in
     let one = c.in_ok-searched.ensures in
     let two = c.in_ok-made.ensures in
-    IfOk-weaker c.from_patterns.result (λ r. IsRule r c.args.name.now c.in_ok-searched.searched c.in_ok-made.made c.args.condition) (ReadsRule form g.L.LanguageChildren.read c.args.graph.now c.parse_pattern-2.new.self c.args.name.now c.args.left.now c.args.right.now c.args.condition)
-    (reads-rule form g.L.LanguageChildren.read c.args.graph.now c.parse_pattern.new.self c.parse_pattern-2.new.self c.args.left.now c.args.right.now c.in_ok-searched.searched one.reads two.reads one.failed one.answer c.in_ok-made.made two.answer c.args.name.now c.args.condition) c.from_patterns.ensures.rule
+    rule-read form g.L.LanguageChildren.read c.args.graph.now c.parse_pattern.new.self c.parse_pattern-2.new.self c.args.left.now c.args.right.now c.in_ok-searched.searched one.reads two.reads one.failed one.answer c.in_ok-made.made two.answer
+    c.from_patterns.result c.args.name.now c.args.condition c.from_patterns.ensures.rule c.from_patterns.ensures.asked
 
 pub returns-clause-searched : goal.returns-clause-searched
 returns-clause-searched g c =
@@ -52,7 +53,7 @@ returns-clause-err g c =
     let form = g.L.LanguageChildren.form in
     let one = c.in_ok-searched.ensures in
     let two = c.in_ok-made.ensures in
-    IfErr-weaker c.from_patterns.result (IsRefusedRule (tree_of form c.in_ok-searched.searched) (tree_of form c.in_ok-made.made)) (RuleRefused form g.L.LanguageChildren.read c.args.graph.now c.parse_pattern-2.new.self c.args.left.now c.args.right.now)
+    IfErr-weaker c.from_patterns.result (IsRefusedRule (tree_of form c.in_ok-searched.searched) (tree_of form c.in_ok-made.made) (tree_reads c.args.condition)) (RuleRefused form g.L.LanguageChildren.read c.args.graph.now c.parse_pattern-2.new.self c.args.left.now c.args.right.now c.args.condition)
     (rule-refused form g.L.LanguageChildren.read c.args.graph.now c.parse_pattern.new.self c.parse_pattern-2.new.self c.args.left.now c.args.right.now c.in_ok-searched.searched one.reads two.reads one.failed one.answer c.in_ok-made.made two.answer) c.from_patterns.ensures.err
 
 pub returns-clause-extends : goal.returns-clause-extends
