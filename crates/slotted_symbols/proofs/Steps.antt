@@ -1,7 +1,7 @@
 -- The steps of the loops over arguments, and what each call answers.
-use Rattle.std.specs.Prelude.{◌≡◌, ℕ, suc, ◌+◌, ◌-◌, ◌<◌, ◌≤◌, ◌^◌, List, ◌∷◌, ◌++◌, length, take, drop, min, Option, Some, None, option_map, slice_index, set, get_or, refl}
+use Rattle.std.specs.Prelude.{◌≡◌, ℕ, suc, ◌+◌, ◌-◌, ◌<◌, ◌≤◌, ◌^◌, List, ◌∷◌, ◌++◌, length, take, drop, min, Option, Some, None, slice_index, set, get_or, refl}
 use Rattle.std.proofs.Common.{ap, ◌∙◌, sym, subst, arith}
-use Rattle.std.proofs.lemmas.List.{take_all, set_split, map-append, at_drop_more, at_drop_all, take-append-drop, get_or_default}
+use Rattle.std.proofs.lemmas.List.{set_split, map-append, take-append-drop, get_or_default}
 use Rattle.slotted_slots.specs.Maps.{values, with_value_at}
 use Rattle.slotted_slots.specs.Syntax.{Element, applied, name}
 use Rattle.slotted_slots.specs.declared.types.AppliedId.{AppliedId}
@@ -22,11 +22,6 @@ places_before args k = length (slots_of (elements (take k args)))
 abbrev pub children_before : List Argument → ℕ → ℕ
 children_before args n = applied_count (elements (take n args))
 
--- counting
-pub count_step : (args : List Argument) (k count w : ℕ) (x : Argument) → k < length args → x ≡ get_or args k x → w ≡ places (element x) →
-    count ≡ counted (places_before args k) → min (count + w) (2 ^ 64 - 1) ≡ counted (places_before args (k + 1))
-count_step args k count w x h at width inv = omega (arith, places_more args k x h at, width, inv)
-
 -- locating a place
 pub locate_step : (args : List Argument) (i k left w : ℕ) (x : Argument) → k < length args → x ≡ get_or args k x → w ≡ places (element x) →
     w ≤ left → places_before args k + left ≡ i → places_before args (k + 1) + (left - w) ≡ i
@@ -39,9 +34,6 @@ located args i k left w x h at width lt inv = record {
   place = inv;
   inside = omega (arith, places_more args k x h at, width, lt, inv);
 }
-
-pub not_past : (args : List Argument) (i k left : ℕ) → length args ≤ k → places_before args k + left ≡ i → i < length (slots_of (elements args)) → ⊥
-not_past args i k left past inv within = omega (arith, ap (λ l. length (slots_of (elements l))) (take_all k args past), inv, within)
 
 -- the place of a slot, and those of a child
 slot_place : (args : List Argument) (i k j x : ℕ) → IsAtPlace args i k j → Slot x ≡ get_or args k (Slot x) → i ≡ places_before args k
@@ -92,19 +84,6 @@ value_set args i k j s a b p at id m =
     (subst (λ n. HasName (es ++ applied a.id.0 a.m ∷ ds) n s (es ++ applied a.id.0 (with_value_at a.m j s) ∷ ds)) p.place there))
 
 -- scopes
-pub scope_step : (args : List Argument) (k x : ℕ) → k < length args → Slot x ≡ get_or args k (Slot x) →
-    to_child (elements (drop k args)) ≡ option_map suc (to_child (elements (drop (k + 1) args)))
-scope_step args k x h at =
-    at_drop_more (λ l. to_child (elements l)) args k (Slot x) h ∙ ap (λ y. to_child (element y ∷ elements (drop (k + 1) args))) (sym at)
-
-pub scope_found : (args : List Argument) (k : ℕ) (a : AppliedId) → k < length args → Child a ≡ get_or args k (Child a) →
-    to_child (elements (drop k args)) ≡ Some (length a.m)
-scope_found args k a h at =
-    at_drop_more (λ l. to_child (elements l)) args k (Child a) h ∙ ap (λ y. to_child (element y ∷ elements (drop (k + 1) args))) (sym at)
-
-pub scope_none : (args : List Argument) (k : ℕ) → length args ≤ k → to_child (elements (drop k args)) ≡ None
-scope_none args k past = at_drop_all (λ l. to_child (elements l)) args k past
-
 pub slot_end : (args : List Argument) (i k j x : ℕ) → IsAtPlace args i k j → Slot x ≡ get_or args k (Slot x) →
     scope_end_of (scopes (tree_of (elements args))) i ≡ end_at i (to_child (elements (drop (k + 1) args)))
 slot_end args i k j x p at =
@@ -120,19 +99,7 @@ child_end args i k j a p at =
     (λ t. scope_end_of (scopes (tree_of (split args k (Child a) p.within at t))) (sym p.place t))
     ∙ no_end_in_child (elements (take k args)) a.id.0 a.m (elements (drop (k + 1) args)) j (child_place_at args i k j a p at)
 
--- the code adds one and then the place to a count, and no sum passes the largest number
-pub end_counted : (i n : ℕ) → min (min (counted n + 1) (2 ^ 64 - 1) + i) (2 ^ 64 - 1) ≡ counted (i + 1 + n)
-end_counted i n = omega arith
-
 -- children
-pub child_step : (args : List Argument) (k n left : ℕ) (a : AppliedId) → n < length args → Child a ≡ get_or args n (Child a) →
-    0 < left → children_before args n + left ≡ k → children_before args (n + 1) + (left - 1) ≡ k
-child_step args k n left a h at lt inv = omega (arith, children_more args n (Child a) h at, lt, inv)
-
-pub slot_step : (args : List Argument) (k n left x : ℕ) → n < length args → Slot x ≡ get_or args n (Slot x) →
-    children_before args n + left ≡ k → children_before args (n + 1) + left ≡ k
-slot_step args k n left x h at inv = omega (arith, children_more args n (Slot x) h at, inv)
-
 pub child_reached : (args : List Argument) (k n : ℕ) (a : AppliedId) → n < length args → Child a ≡ get_or args n (Child a) →
     children_before args n + 0 ≡ k → IsChildAt args k n
 child_reached args k n a h at inv = record {
@@ -140,9 +107,6 @@ child_reached args k n a h at inv = record {
   before = omega (arith, inv);
   one = omega (arith, children_more args n (Child a) h at, inv);
 }
-
-pub none_left : (args : List Argument) (k n left : ℕ) → length args ≤ n → children_before args n + left ≡ k → applied_count (elements args) ≤ k
-none_left args k n left past inv = omega (arith, ap (λ l. applied_count (elements l)) (take_all n args past), inv)
 
 pub no_slot_there : (args : List Argument) (k n x : ℕ) → IsChildAt args k n → Slot x ≡ get_or args n (Slot x) → ⊥
 no_slot_there args k n x p at = omega (arith, children_more args n (Slot x) p.within at, p.before, p.one)

@@ -1,4 +1,12 @@
 -- Arguments as the elements that they are written as, and the tree of their places.
+--     elements args       what these arguments are written as
+--     places e            how many places an element has
+--     with_slot t         the tree with one more slot in front
+--     tree_of es          the tree of these elements: slots in front of a child are bound in it, the others are free
+--     to_child es         how many places there are up to the end of the first child
+--     kinds es            which of them are slots, and which are children
+--     form_over w es      the node of a word and these arguments
+--     read_arguments es   the arguments that are written so, if no text is among them and if they are not too many
 use Rattle.std.specs.Prelude.{ℕ, suc, List, [], ◌∷◌, length, map, Option, Some, None, option_map, Bool, true, false, not, if◌then◌else◌, nat_lt, ◌&&◌}
 use Rattle.slotted_slots.specs.Maps.{keys}
 use Rattle.slotted_slots.specs.Syntax.{Element, text, applied, name}
@@ -15,28 +23,24 @@ element (Child a) = applied a.id.0 a.m
 abbrev pub elements : List Argument → List Element
 elements = map element
 
--- how many places an element has
 abbrev pub places : Element → ℕ
 places (text w) = 0
 places (applied i m) = length m
 places (name x) = 1
 
--- the tree with one more slot in front: a binder of what the first child stands under, or a slot of the node's own where there
--- is no child
+-- the slot binds in the first child, around the binders that this child has already. Without a child it is free
 abbrev pub with_slot : Tree → Tree
 with_slot leaf = own leaf
 with_slot (own r) = own (own r)
 with_slot (child i ks r) = bind (child i ks leaf) r
 with_slot (bind u r) = bind (bind u leaf) r
 
--- slots in front of a child are bound in that child, and slots behind the last child are the node's own
 abbrev pub tree_of : List Element → Tree
 tree_of [] = leaf
 tree_of (text w ∷ es) = tree_of es
 tree_of (applied i m ∷ es) = child i (keys m) (tree_of es)
 tree_of (name x ∷ es) = with_slot (tree_of es)
 
--- how many places there are up to the end of the first child
 abbrev pub to_child : List Element → Option ℕ
 to_child [] = None
 to_child (text w ∷ es) = to_child es
@@ -61,7 +65,7 @@ has_text (text w ∷ es) = true
 has_text (applied i m ∷ es) = has_text es
 has_text (name x ∷ es) = has_text es
 
--- the elements are arguments: slots and children alone, fewer than slots can number
+-- slots and children alone, fewer than slots can number
 abbrev pub are_arguments : List Element → Bool
 are_arguments es = nat_lt (length es) slot_limit && not (has_text es)
 

@@ -6,3 +6,4 @@ pub mod SymbolForms
 pub mod SymbolLaws
 pub mod SymbolBack
 pub mod SymbolWritten
+pub mod SymbolOrder

@@ -1,4 +1,7 @@
--- How the nodes of SymbolLang are written where only their terms are known.
+-- How the nodes of SymbolLang are written if only their terms are known.
+--     own_names args     the names and binders among arguments of a term, from the left
+--     woven ks xs        slots and children of these kinds, with these names for the slots
+--     symbol_written u   what a term is written as
 use Rattle.std.specs.Prelude.{◌≡◌, ℕ, suc, zero, List, [], ◌∷◌, ◌++◌, length, map, take, drop, slice_index, slice_index_or, Option, None, refl}
 use Rattle.std.proofs.Common.{ap, ◌∙◌, sym, arith}
 use Rattle.std.proofs.lemmas.List.{append-nil, length-map, drop_at, take-take}
@@ -19,14 +22,12 @@ use Rattle.slotted_symbols.specs.declared.argument.Argument.TheVariants.{Slot, C
 use Rattle.slotted_symbols.specs.declared.symbol_lang.SymbolLang.{SymbolLang}
 use Rattle.slotted_terms.specs.Shown.{IsWrittenAs, without_id}
 
--- the names and binders among arguments, from the left
 abbrev pub own_names : Args → List ℕ
 own_names done = []
 own_names (name x rest) = x ∷ own_names rest
 own_names (child op payloads args rest) = own_names rest
 own_names (bind x inner rest) = x ∷ (own_names inner ++ own_names rest)
 
--- slots and children of these kinds, with these names for the slots
 abbrev pub woven : List ℕ → List ℕ → List Element
 woven [] xs = []
 woven (zero ∷ ks) xs = slot (slice_index xs 0) ∷ woven ks (drop 1 xs)

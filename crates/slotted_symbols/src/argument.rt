@@ -8,7 +8,7 @@ use std::alloc::Global;
 /// An argument of an e-node.
 #[derive(Drop, Debug, Clone, PartialEq, Eq, PartialOrd, Ord, Hash)]
 pub enum Argument {
-    /// A slot: a binder of the next child, or a slot of the e-node's own if no child follows.
+    /// A slot. It is bound in the next child, or free if no child follows.
     Slot(Slot),
     /// A child.
     Child(AppliedId),

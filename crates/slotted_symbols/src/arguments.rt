@@ -23,7 +23,7 @@ fn width(argument: &Argument) -> usize
     }
 }
 
-/// Returns the number of places, or the largest `usize` if there are more.
+/// Returns the number of places. If there are more than the largest `usize`, that number is returned.
 pub(crate) fn place_count(arguments: &[Argument]) -> usize
     ensures { result ≡ counted (length (slots_of (elements arguments.now))) }
 {
@@ -34,7 +34,7 @@ pub(crate) fn place_count(arguments: &[Argument]) -> usize
     count
 }
 
-// Returns the argument that has a place, and which of its own places that is.
+// Returns which argument has a place, and which of that argument's own places it is.
 fn locate(arguments: &[Argument], i: usize) -> (usize, usize)
     requires { i < length (slots_of (elements arguments.now)) }
     ensures { IsAtPlace arguments.now i result.0 result.1 }
@@ -74,7 +74,8 @@ pub(crate) fn set_name_at(arguments: &mut [Argument], i: usize, s: Slot)
     }
 }
 
-// Returns the number of places up to the end of the first child, or `None` if there is no child.
+// Returns the number of places up to the end of the first child, or `None` if there is no child. If there are more than
+// the largest `usize`, that number is returned.
 fn places_to_child(arguments: &[Argument]) -> Option<usize>
     ensures { result ≡ counted_end (to_child (elements arguments.now)) }
 {
@@ -169,7 +170,8 @@ pub(crate) fn set_child_at(arguments: &mut [Argument], k: usize, a: AppliedId)
     }
 }
 
-/// Returns the arguments that these elements write, or `None` if a text is among them or if they are too many.
+/// Returns the arguments that are written as these elements, or `None` if a text is among them or if they are 2^30 or
+/// more.
 pub(crate) fn read_arguments(
     alloc: Global,
     syntax: &[SyntaxElem],

@@ -4,6 +4,7 @@
 pub mod argument;
 pub(crate) mod arguments;
 pub mod list;
+pub mod order;
 pub mod read_again;
 pub mod symbol_lang;
 

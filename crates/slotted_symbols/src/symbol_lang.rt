@@ -17,10 +17,12 @@ use std::alloc::{AllocError, Global};
 /// An e-node: a word, and the arguments behind it.
 ///
 /// It is written `(sum n $i t)`, or as the word alone if there are no arguments. Slots in front of a child are bound in
-/// that child. Slots behind the last child, or without any child, are the e-node's own.
+/// that child, and in no other. Slots behind the last child, or without any child, are free.
 ///
 /// So `(lam $x t)` binds `$x` in `t`, `(lam2 $x $y t)` binds both, `(let $x t u)` binds `$x` in `t` alone, and
-/// `(var $x)` and `(at t $x)` bind nothing.
+/// `(var $x)` and `(at t $x)` bind nothing. A free slot cannot stand in front of a child: `(col $r age)` binds `$r`.
+///
+/// A number is a word too, so `5`, `+5` and `05` are three leaves. An e-node has fewer than 2^30 arguments.
 #[derive(Drop, Debug, PartialEq, Eq, PartialOrd, Ord, Hash)]
 pub struct SymbolLang {
     word: Symbol,
@@ -31,11 +33,12 @@ pub struct SymbolLang {
 impl SymbolLang {
     ghost use Rattle.std.specs.Prelude.{◌≡◌, ◌≤◌, IfOk, IfErr};
     ghost use Rattle.slotted_slots.specs.declared.error.Error.TheVariants.{OutOfSlots};
+    ghost use Rattle.slotted_symbols.specs.SymbolForms.{word_of, arguments_of};
 
     /// Returns the e-node of a word and arguments, or `OutOfSlots` if they are 2^30 or more.
     pub fn new(word: Symbol, arguments: Vec<Argument>) -> Result<SymbolLang, Error>
-        ensures word { IfOk result (λ n. n.word ≡ word) }
-        ensures arguments { IfOk result (λ n. n.arguments ≡ arguments.items) }
+        ensures word { IfOk result (λ n. word_of n ≡ word) }
+        ensures arguments { IfOk result (λ n. arguments_of n ≡ arguments.items) }
         ensures err { IfErr result (λ e. (e ≡ OutOfSlots) × (slot_limit ≤ length arguments.items)) }
     {
         if arguments.len() >= PLACES {
@@ -49,14 +52,14 @@ impl SymbolLang {
 
     /// Returns the word.
     pub fn word(&self) -> &str
-        ensures { result.now ≡ self.now.word }
+        ensures { result.now ≡ word_of self.now }
     {
         self.word.as_str()
     }
 
     /// Returns the arguments.
     pub fn arguments(&self) -> &[Argument]
-        ensures { result.now ≡ self.now.arguments }
+        ensures { result.now ≡ arguments_of self.now }
     {
         self.arguments.as_slice()
     }
