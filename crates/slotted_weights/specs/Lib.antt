@@ -1,0 +1,2 @@
+-- Weights of operators.
+pub mod OperatorWeights
