@@ -1,0 +1,8 @@
+-- Lemmas of the signatures of operators.
+pub mod Lists
+pub mod KindNumbers
+pub mod ReadingOrder
+pub mod Examples
+pub mod Uses
+pub mod FirstMisuse
+pub mod NearestWord
