@@ -70,14 +70,17 @@ ChangesGraph s v = v ≡ record s { graph = v.graph }
 
 abbrev pub RefusesBoth : Space → Space → Handle → Handle → (Term → Term → Error → Type 0) → WorkspaceError → Type 0
 RefusesBoth s v a b P UnknownHandle = ((term_at s a ≡ None) ⊎ (term_at s b ≡ None)) × (v ≡ s)
+RefusesBoth s v a b P (refused.RuleText e) = ⊥
 RefusesBoth s v a b P (refused.Graph e) = OfBoth s a b (λ t u. P t u e) × ChangesGraph s v
 
 abbrev pub RefusesOne : Space → Space → Handle → (Term → Error → Type 0) → WorkspaceError → Type 0
 RefusesOne s v a P UnknownHandle = (term_at s a ≡ None) × (v ≡ s)
+RefusesOne s v a P (refused.RuleText e) = ⊥
 RefusesOne s v a P (refused.Graph e) = OfOne s a (λ t. P t e) × ChangesGraph s v
 
 abbrev pub Refuses : Space → Space → (Error → Type 0) → WorkspaceError → Type 0
 Refuses s v P UnknownHandle = ⊥
+Refuses s v P (refused.RuleText e) = ⊥
 Refuses s v P (refused.Graph e) = P e × ChangesGraph s v
 
 -- it says so of the graph alone, which had failed before, and stays so

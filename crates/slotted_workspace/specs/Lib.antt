@@ -4,3 +4,4 @@ pub mod Keeping
 pub mod Asked
 pub mod Runs
 pub mod Turns
+pub mod RuleTexts

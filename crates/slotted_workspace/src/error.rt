@@ -3,6 +3,7 @@ ghost use Rattle.std.specs.Prelude.{◌≡◌};
 ghost use Rattle.slotted_workspace.specs.declared.error.WorkspaceError.TheVariants.{Graph};
 ghost use Rattle.slotted_slots.specs.declared.error.Error.TheVariants.{OutOfMemory};
 
+use slotted_rule_texts::RuleTextError;
 use slotted_slots::Error as GraphError;
 use std::alloc::AllocFailed;
 use thiserror::Error;
@@ -13,6 +14,9 @@ pub enum WorkspaceError {
     /// The handle belongs to another workspace, or is too large.
     #[error("the handle is none of this workspace")]
     UnknownHandle,
+    /// The text is none of a rule.
+    #[error("{0}")]
+    RuleText(RuleTextError),
     /// The graph returned this error.
     #[error("{0}")]
     Graph(GraphError),

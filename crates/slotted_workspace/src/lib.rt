@@ -11,6 +11,7 @@ pub mod handle;
 pub(crate) mod kept;
 pub mod numbers;
 pub(crate) mod reading;
+pub(crate) mod rule_texts;
 pub(crate) mod running;
 pub(crate) mod searching;
 pub(crate) mod turning;

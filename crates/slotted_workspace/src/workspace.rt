@@ -10,6 +10,7 @@ ghost use Rattle.slotted_slots.specs.Table.{gives, named_of};
 ghost use Rattle.slotted_workspace.specs.Asked.{NamingRefused, UnionRefused, AddsTerm, KeepsRule, RuleRefused};
 ghost use Rattle.slotted_workspace.specs.Asked.{DrawRefused, ExtractsBy, ExtractByRefused};
 ghost use Rattle.slotted_workspace.specs.Asked.{HasMatches, PatternRefused, ReadsPattern, SearchRefused};
+ghost use Rattle.slotted_workspace.specs.RuleTexts.{KeepsRules, RefusesText};
 ghost use Rattle.slotted_workspace.specs.Runs.{HasRun, OfRules, RunRefused};
 ghost use Rattle.slotted_workspace.specs.Spaces.{empty_space, term_at};
 ghost use Rattle.slotted_workspace.specs.Turns.{TakesTurn, TurnRefused};
@@ -22,6 +23,7 @@ use crate::handle::Handle;
 use crate::kept::{Kept, both_at, kept_at};
 use crate::numbers::WorkspaceNumbers;
 use crate::reading::{read_pattern, read_rule, read_term};
+use crate::rule_texts::rules_of_text;
 use crate::running::{Limits, run_rules};
 use crate::searching::count_found;
 use crate::turning::take_turn;
@@ -212,6 +214,20 @@ impl<L: Language> Workspace<L> {
     {
         let rule = read_rule(self.alloc, &mut self.graph, name, left, right, condition)?;
         self.rules.push(rule)?;
+        Ok(())
+    }
+
+    /// Keeps the rule of one text, as `NAME: L => R`. A rule `NAME: L <=> R` goes both ways, and is kept as two rules. The
+    /// second one has `<` behind its name.
+    ///
+    /// Behind the rule ` if $x not in ?v` may follow: the slot does not occur in what stands for the variable. ` in `
+    /// asks for the opposite. Several conditions have ` and ` between them. If anything is refused, no rule is kept.
+    pub fn rule_text(&mut self, text: &str) -> Result<(), WorkspaceError>
+        ensures ok { OnOk result (KeepsRules L.form L.read self.old self.new text.now) }
+        ensures err { IfErr result (RefusesText L.form L.read self.old self.new text.now) }
+    {
+        let mut rules = rules_of_text(self.alloc, &mut self.graph, text)?;
+        self.rules.append(&mut rules)?;
         Ok(())
     }
 
