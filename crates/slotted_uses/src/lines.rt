@@ -1,7 +1,8 @@
 //! The lines of a workspace, and the answers to them.
 use crate::question::{Verdict, ask};
 use slotted_languages::Language;
-use slotted_rules::{CondTree, slot_free_in};
+use slotted_messages::Message;
+use slotted_rule_texts::RuleText;
 use slotted_terms::expr::printing::Printable;
 use slotted_workspace::{Limits, Workspace, WorkspaceError};
 use std::alloc::Global;
@@ -15,6 +16,8 @@ pub enum Answer {
     Judged(Verdict),
     /// The line is neither an assertion, nor a rule, nor a question.
     Unknown,
+    /// A text of the line is outside the grammar. Says what is wrong, and where.
+    Refused(String),
 }
 
 /// Does what a line asks. A line that is refused asserts nothing, and keeps no rule.
@@ -24,10 +27,10 @@ pub fn carry_out<L: Printable>(
     line: &str,
 ) -> Result<Answer, WorkspaceError> {
     if let Some(text) = line.strip_prefix("ask ") {
-        return answer_question(workspace, text);
+        return answer_question(alloc, workspace, text);
     }
     if let Some(text) = line.strip_prefix("assert ") {
-        return assert_equation(workspace, text);
+        return assert_equation(alloc, workspace, text);
     }
     match line.strip_prefix("rule ") {
         Some(text) => keep_rule(alloc, workspace, text),
@@ -35,71 +38,80 @@ pub fn carry_out<L: Printable>(
     }
 }
 
-fn answer_question<L: Printable>(
+// Returns what is wrong with a text of a pattern, if anything is.
+fn fault<L: Language>(
+    alloc: Global,
     workspace: &mut Workspace<L>,
     text: &str,
-) -> Result<Answer, WorkspaceError> {
-    match text.split_once(" = ") {
-        Some((left, right)) => Ok(Answer::Judged(ask(workspace, left, right, Limits::usual())?)),
-        None => Ok(Answer::Unknown),
+) -> Result<Option<String>, WorkspaceError> {
+    match workspace.pattern(text) {
+        Ok(_) => Ok(None),
+        Err(WorkspaceError::Graph(error)) => {
+            let message = Message::of_text(&error, text);
+            Ok(Some(format!(in alloc; "{message}")?))
+        }
+        Err(error) => Err(error),
     }
 }
 
-// Returns the name in front of a colon, and the texts on both sides of a sign.
-fn parts<'a>(text: &'a str, sign: &str) -> Option<(&'a str, &'a str, &'a str)> {
-    let (name, sides) = text.split_once(": ")?;
-    let (left, right) = sides.split_once(sign)?;
-    Some((name, left, right))
+// Returns what is wrong with the first of two texts of patterns in which something is.
+fn first_fault<L: Language>(
+    alloc: Global,
+    workspace: &mut Workspace<L>,
+    left: &str,
+    right: &str,
+) -> Result<Option<String>, WorkspaceError> {
+    match fault(alloc, workspace, left)? {
+        Some(fault) => Ok(Some(fault)),
+        None => fault(alloc, workspace, right),
+    }
 }
 
-fn assert_equation<L: Language>(
+fn answer_question<L: Printable>(
+    alloc: Global,
     workspace: &mut Workspace<L>,
     text: &str,
 ) -> Result<Answer, WorkspaceError> {
-    let Some((name, left, right)) = parts(text, " = ") else {
+    let Some((left, right)) = text.split_once(" = ") else {
         return Ok(Answer::Unknown);
     };
+    if let Some(fault) = first_fault(alloc, workspace, left, right)? {
+        return Ok(Answer::Refused(fault));
+    }
+    Ok(Answer::Judged(ask(workspace, left, right, Limits::usual())?))
+}
+
+fn assert_equation<L: Language>(
+    alloc: Global,
+    workspace: &mut Workspace<L>,
+    text: &str,
+) -> Result<Answer, WorkspaceError> {
+    let Some((name, sides)) = text.split_once(": ") else {
+        return Ok(Answer::Unknown);
+    };
+    let Some((left, right)) = sides.split_once(" = ") else {
+        return Ok(Answer::Unknown);
+    };
+    if let Some(fault) = first_fault(alloc, workspace, left, right)? {
+        return Ok(Answer::Refused(fault));
+    }
     let left = workspace.add(left)?;
     let right = workspace.add(right)?;
     workspace.union_because(left, right, name)?;
     Ok(Answer::Kept)
 }
 
-// Returns whether a variable stands in a rule. A condition on another variable would be refused only when the rule is
-// run.
-fn has_variable(rule: &str, variable: &str) -> bool {
-    rule.split(['(', ')', ' '])
-        .any(|word| word.strip_prefix('?') == Some(variable))
-}
-
-// Keeps a rule, behind which a condition may stand.
+// Keeps the rule of a text, in both directions if it is one of `<=>`. A condition may stand behind it.
 fn keep_rule<L: Language>(
     alloc: Global,
     workspace: &mut Workspace<L>,
     text: &str,
 ) -> Result<Answer, WorkspaceError> {
-    let Some((rule, condition)) = text.split_once(" if $") else {
-        return keep_rule_if(workspace, text, CondTree::Always);
-    };
-    let Some((slot, variable)) = condition.split_once(" not in ?") else {
-        return Ok(Answer::Unknown);
-    };
-    if !has_variable(rule, variable) {
-        return Ok(Answer::Unknown);
+    if let Ok(rule) = RuleText::read(alloc, text)
+        && let Some(fault) = first_fault(alloc, workspace, rule.left, rule.right)?
+    {
+        return Ok(Answer::Refused(fault));
     }
-    let slot = workspace.slot(slot)?;
-    let condition = slot_free_in(alloc, slot, variable)?;
-    keep_rule_if(workspace, rule, CondTree::SlotFreeIn(condition))
-}
-
-fn keep_rule_if<L: Language>(
-    workspace: &mut Workspace<L>,
-    text: &str,
-    condition: CondTree,
-) -> Result<Answer, WorkspaceError> {
-    let Some((name, left, right)) = parts(text, " => ") else {
-        return Ok(Answer::Unknown);
-    };
-    workspace.rule_if(name, left, right, condition)?;
+    workspace.rule_text(text)?;
     Ok(Answer::Kept)
 }

@@ -29,6 +29,7 @@ fn show_answer(rt: &impl Print, answer: &Answer) -> Result<()> {
         )?,
         Answer::Judged(Verdict::Stopped) => println!(rt; "not decided: a limit stopped the rules")?,
         Answer::Judged(Verdict::Open) => println!(rt; "not decided: a symmetry is open")?,
+        Answer::Refused(fault) => println!(rt; "error: {fault}")?,
         Answer::Unknown => println!(rt; "error: this is no assertion, no rule and no question")?,
     }
     Ok(())

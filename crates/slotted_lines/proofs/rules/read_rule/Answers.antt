@@ -1,6 +1,6 @@
 -- The texts are read one after the other.
 use Rattle.std.proofs.Common.{◌≡◌, ◌∙◌, Result, Ok, Err, IfOk, ap, sym, subst}
-use Rattle.std.specs.Prelude.{None, false}
+use Rattle.std.specs.Prelude.{[], None, false}
 use Rattle.std.proofs.lemmas.Result.{IfOk-weaker, IfErr-weaker}
 use Rattle.slotted_languages.proofs.HandedOn.{handed_err}
 use Rattle.slotted_patterns.specs.Known.{HasKnownNames}
