@@ -12,7 +12,9 @@ pub mod example;
 pub use slotted_analyses::{Analysis, Edit};
 pub use slotted_classes::RebuildCount;
 pub use slotted_explain::{Check, EGraph, Explanation, LeastTerms, ProgressMeasure, Symmetry};
-pub use slotted_extract::{AstSize, CostFunction, Extractor, ast_size_extract, extract};
+pub use slotted_extract::{
+    AstSize, CostFunction, Extractor, ast_size_extract, extract, extract_by,
+};
 pub use slotted_graph::{SubstMethod, make_edit, modify_class, modify_in_rounds, modify_once};
 pub use slotted_instances::{
     OwnSubst, lookup_rec_expr, pattern_subst, subst_ids, subst_with, union_instantiations,
@@ -27,8 +29,8 @@ pub use slotted_proofs::{
 };
 pub use slotted_rule_patterns::Subst;
 pub use slotted_rules::{
-    Always, And, Cond, CondTree, Not, Or, Rewrite, RewriteT, RuleCounts, SlotFreeIn, TurnCounts,
-    and, apply_counted, apply_matches, apply_rewrites, are_valid, ematch_all, not, or,
+    Always, And, Cond, CondTree, Not, Or, ReadsNames, Rewrite, RewriteT, RuleCounts, SlotFreeIn,
+    TurnCounts, and, apply_counted, apply_matches, apply_rewrites, are_valid, ematch_all, not, or,
     slot_free_in,
 };
 pub use slotted_runs::{
@@ -40,5 +42,6 @@ pub use slotted_slots::{
     SyntaxElem, Token,
 };
 pub use slotted_small::Small;
+pub use slotted_symbols::{Argument, SymbolLang};
 pub use slotted_terms::expr::printing::Printable;
 pub use slotted_terms::{RecExpr, pattern_to_re, re_to_pattern};

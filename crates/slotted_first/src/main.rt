@@ -1,24 +1,24 @@
-//! A first program over a workspace: two terms become equal by a rule, and a proof of it is printed.
+//! A first program over a workspace: operators of one's own, a rule that fuses two maps, and a proof that is printed.
 #![tactic(auto)]
 
 use anyhow::Result;
-use slotted_small::Small;
+use slotted_symbols::SymbolLang;
 use slotted_workspace::{Limits, Workspace};
 
-fn show(rt: &impl Print, workspace: &mut Workspace<Small>) -> Result<()> {
-    workspace.rule("beta", "(app (lam $x ?b) ?t)", "?b[(var $x) := ?t]")?;
-    let call = workspace.add("(app (lam $x (mul (var $x) (var $x))) a)")?;
-    let square = workspace.add("(mul a a)")?;
+fn show(rt: &impl Print, workspace: &mut Workspace<SymbolLang>) -> Result<()> {
+    workspace.rule_text("fuse: (map $x ?b (map $y ?c ?l)) => (map $y ?b[(var $x) := ?c] ?l)")?;
+    let twice = workspace.add("(map $i (double (var $i)) (map $j (next (var $j)) xs))")?;
+    let once = workspace.add("(map $k (double (next (var $k))) xs)")?;
     workspace.run(Limits::usual())?;
-    let equal = workspace.eq(call, square)?;
+    let equal = workspace.eq(twice, once)?;
     println!(rt; "{equal}")?;
-    print!(rt; "{}", workspace.explain(call, square)?)?;
-    let smallest = workspace.extract(call)?;
+    print!(rt; "{}", workspace.explain(twice, once)?)?;
+    let smallest = workspace.extract(twice)?;
     println!(rt; "{} nodes: {}", smallest.cost, smallest.text)?;
     Ok(())
 }
 
 fn main(rt: HostRuntime) -> Result<()> {
-    let mut workspace: Workspace<Small> = Workspace::new(rt.alloc())?;
+    let mut workspace: Workspace<SymbolLang> = Workspace::new(rt.alloc())?;
     show(&rt, &mut workspace)
 }

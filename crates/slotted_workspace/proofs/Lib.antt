@@ -4,6 +4,7 @@ pub mod Staying
 pub mod Saying
 pub mod Readings
 pub mod Rules
+pub mod RuleTexts
 pub mod Explanations
 pub mod Extractions
 pub mod Runs

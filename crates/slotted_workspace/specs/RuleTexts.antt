@@ -1,5 +1,6 @@
 -- Rules that are kept by their texts.
 --     IsConditionFor c slot x        the tree x asks the condition c about this slot
+--     ReadsCondition g h c x         from g to h the slot of c was named, and x asks c about it
 --     IsBothOf a b x                 the tree x asks a, and then b
 --     AsksAll t x cs u               the tree x asks all of the conditions, in order; their slots were named one after another, from the table t to u
 --     ReadsConditional ..            a rule of two texts and conditions; the slots of the conditions are named first
@@ -34,6 +35,13 @@ use Rattle.slotted_workspace.specs.declared.error.WorkspaceError.TheVariants as 
 pub data IsConditionFor (c : Condition) (slot : ℕ) (x : CondTree) : Type 0 where
   lacks : (a : SlotFreeIn) → x ≡ tree.SlotFreeIn a → c.occurs ≡ false → a.slot ≡ slot → string_bytes a.variable ≡ c.variable → IsConditionFor c slot x
   occurs : (a : SlotFreeIn) (b : Box CondTree Global) → x ≡ tree.Not b → b.value ≡ tree.SlotFreeIn a → c.occurs ≡ true → a.slot ≡ slot → string_bytes a.variable ≡ c.variable → IsConditionFor c slot x
+
+-- the slot of the condition is named first
+pub record ReadsCondition (g h : Graph) (c : Condition) (x : CondTree) : Type 0 where
+  pub well : g.failed ≡ false
+  pub slot : ℕ
+  pub named : named_of g.table c.slot ≡ gives slot h.table
+  pub is : IsConditionFor c slot x
 
 pub record IsBothOf (first second x : CondTree) : Type 0 where
   pub left : Box CondTree Global

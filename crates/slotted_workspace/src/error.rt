@@ -3,10 +3,9 @@ ghost use Rattle.std.specs.Prelude.{◌≡◌};
 ghost use Rattle.slotted_workspace.specs.declared.error.WorkspaceError.TheVariants.{Graph};
 ghost use Rattle.slotted_slots.specs.declared.error.Error.TheVariants.{OutOfMemory};
 
-use slotted_messages::Message;
 use slotted_rule_texts::RuleTextError;
 use slotted_slots::Error as GraphError;
-use std::alloc::AllocFailed;
+use std::alloc::{AllocError, AllocFailed};
 use thiserror::Error;
 
 /// The error of a call of a workspace.
@@ -19,7 +18,7 @@ pub enum WorkspaceError {
     #[error("{0}")]
     RuleText(RuleTextError),
     /// The graph returned this error.
-    #[error("{message}", message = Message::of(.0))]
+    #[error("{0}")]
     Graph(GraphError),
 }
 
@@ -28,6 +27,14 @@ impl From<GraphError> for WorkspaceError {
 
     fn from(error: GraphError) -> WorkspaceError {
         WorkspaceError::Graph(error)
+    }
+}
+
+impl From<AllocError> for WorkspaceError {
+    ghost from_gives = { λ _ e. e ≡ Graph OutOfMemory };
+
+    fn from(_e: AllocError) -> WorkspaceError {
+        WorkspaceError::Graph(GraphError::OutOfMemory)
     }
 }
 

@@ -1,12 +1,11 @@
 //! Rules that are read from one text, with conditions, and in both directions.
-ghost use Rattle.std.specs.Prelude.{◌≡◌, ◌⊎◌, ℕ, All, map, IfOk, IfErr, IsTrue};
+ghost use Rattle.std.specs.Prelude.{◌≡◌, ◌⊎◌, All, map, IfOk, IfErr, IsTrue};
 ghost use Rattle.slotted_slots.specs.Error.{IsOutOfMemory};
-ghost use Rattle.slotted_slots.specs.Table.{gives, named_of};
 ghost use Rattle.slotted_operations.specs.Graph.{OnlyReads};
 ghost use Rattle.slotted_graph.specs.Extension.{ExtendsTo};
 ghost use Rattle.slotted_rule_texts.specs.Told.{told_condition, told_rule};
 ghost use Rattle.slotted_rules.specs.Written.{CanBeSearched};
-ghost use Rattle.slotted_workspace.specs.RuleTexts.{AsksAll, ConditionalRefused, ConditionRefused, IsBothOf, IsConditionFor};
+ghost use Rattle.slotted_workspace.specs.RuleTexts.{AsksAll, ConditionalRefused, ConditionRefused, IsBothOf, ReadsCondition};
 ghost use Rattle.slotted_workspace.specs.RuleTexts.{ReadsConditional, ReadsRules, ReadsText, RulesRefused, TextRefused, name_back};
 
 use crate::error::WorkspaceError;
@@ -24,8 +23,7 @@ fn condition_for<L: Language>(
     graph: &mut EGraph<L>,
     asked: &SlotCondition,
 ) -> Result<CondTree, Error>
-    ensures ok { IfOk result (λ x. (slot : ℕ) × (named_of graph.old.table asked.now.slot.now ≡ gives slot graph.new.table)
-        × IsConditionFor (told_condition asked.now) slot x) }
+    ensures ok { IfOk result (ReadsCondition graph.old graph.new (told_condition asked.now)) }
     ensures reads { OnlyReads graph.old graph.new }
     ensures stays { IsTrue graph.old.failed → graph.new ≡ graph.old }
     ensures err { IfErr result (ConditionRefused graph.old graph.new) }
