@@ -1,0 +1,3 @@
+-- Where the tokens begin that are left while a text is read.
+pub mod Reading
+pub mod Words

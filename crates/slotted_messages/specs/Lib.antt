@@ -1,0 +1,2 @@
+-- Where tokens and words begin in a text.
+pub mod Columns
