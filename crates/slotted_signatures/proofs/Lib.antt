@@ -6,3 +6,4 @@ pub mod Examples
 pub mod Uses
 pub mod FirstMisuse
 pub mod NearestWord
+pub mod OwnExamples

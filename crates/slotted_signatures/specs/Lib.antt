@@ -6,3 +6,4 @@ pub mod Shown
 pub mod UsedAsDeclared
 pub mod Misused
 pub mod Nearest
+pub mod OwnExamples

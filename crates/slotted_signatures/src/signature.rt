@@ -7,6 +7,7 @@ ghost use Rattle.slotted_patterns.specs.View.{tree_of};
 ghost use Rattle.slotted_symbols.specs.SymbolForms.{symbol_form};
 ghost use Rattle.slotted_signatures.specs.Kinds.{number, number_of};
 ghost use Rattle.slotted_signatures.specs.UsedAsDeclared.{MayFollow, Takes};
+ghost use Rattle.slotted_signatures.specs.OwnExamples.{ExamplesAreRight};
 ghost use Rattle.slotted_signatures.specs.Shown.{has_more, is_child, is_dots, is_word, last_of, passes, shown_by, usage_of};
 
 use crate::kind::{Kind, kind_of, kinds_of};
@@ -185,3 +186,8 @@ impl Signature {
         }
     }
 }
+
+/// Proves that the operator of an example is used as declared, if the signature that the example shows is declared.
+pub fn each_example_is_right()
+    ensures { ExamplesAreRight }
+{}
