@@ -56,8 +56,8 @@ module _ {L C : Type 0} (form : L → Form) (written : Term → List Element) (c
   pub extract-ends : (refuses : Error → Type 0) (e : Error) → g.failed ≡ false → IsOutOfMemory e → ExtractByRefused form costs refuses g h k.term e
   extract-ends refuses e well memory = extraction_ran_out id well kept.found (inl memory) (λ o. absurd (not_slots e memory o)) takes
 
-pub extract-refused : {L C : Type 0} (form : L → Form) (costs : CostFunction C) (refuses : Error → Type 0) (g h : Graph) (k : Kept L) → IsTrue g.failed ⊎ IsKept g k → OnlyTakesSlots g h → (IsTrue g.failed → h ≡ g) → (e : Error) → (IsErrOf {T = C × Term} (Err e) Failed ↔ IsTrue g.failed) →
-    (IsErrOf {T = C × Term} (Err e) OutOfSlots → MayRefuse refuses OutOfSlots ⊎ RunsOutForLeast form costs (to_applied k.id) g h) → (e ≡ Failed) ⊎ (IsShortage e ⊎ MayRefuse refuses e) → ExtractByRefused form costs refuses g h k.term e
+pub extract-refused : {L C T : Type 0} (form : L → Form) (costs : CostFunction C) (refuses : Error → Type 0) (g h : Graph) (k : Kept L) → IsTrue g.failed ⊎ IsKept g k → OnlyTakesSlots g h → (IsTrue g.failed → h ≡ g) → (e : Error) → (IsErrOf {T = T} (Err e) Failed ↔ IsTrue g.failed) →
+    (IsErrOf {T = T} (Err e) OutOfSlots → MayRefuse refuses OutOfSlots ⊎ RunsOutForLeast form costs (to_applied k.id) g h) → (e ≡ Failed) ⊎ (IsShortage e ⊎ MayRefuse refuses e) → ExtractByRefused form costs refuses g h k.term e
 extract-refused form costs refuses g h k kept takes stays e failed full only = by g.failed refl
   where
     ran-out : g.failed ≡ false → IsKept g k → e ≡ OutOfSlots → MayRefuse refuses OutOfSlots ⊎ RunsOutForLeast form costs (to_applied k.id) g h → ExtractByRefused form costs refuses g h k.term e

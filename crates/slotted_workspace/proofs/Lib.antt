@@ -10,3 +10,4 @@ pub mod Extractions
 pub mod Runs
 pub mod Turns
 pub mod Methods
+pub mod Searches

@@ -44,6 +44,10 @@ module _ {L : Type 0} (form : L → Form) (n : ℕ) (g : Graph) (kept : List (Ke
   pub changes : (h : Graph) → ChangesGraph s (seen form n h kept rules)
   changes h i = record (is i) { graph = h }
 
+  -- a call over the graph was refused
+  pub call-refused : (P : Graph → Error → Type 0) (h : Graph) (e : Error) → P g e → Refuses s (seen form n h kept rules) (P s.graph) (refusal.Graph e)
+  call-refused P h e p = (subst (λ (x : Space). P x.graph e) is p, changes h)
+
   -- what was read is what is kept
   module _ (read : List (Kept L)) (same : read ≡ kept) where
     stand : (h : Handle) (k : Kept L) → found_in read n h ≡ Some k → term_at s h ≡ Some k.term

@@ -1,23 +1,32 @@
 -- What the conditions and the rules of a text leave of the graph.
-use Rattle.std.proofs.Common.{◌≡◌, ◌⊎◌, ◌∙◌, ℕ, List, sym, inl, inr}
-use Rattle.std.specs.Prelude.{IsTrue, Option, false}
+use Rattle.std.proofs.Common.{◌≡◌, ◌⊎◌, ◌∙◌, ◌++◌, ℕ, List, [], ◌∷◌, refl, subst, sym, inl, inr}
+use Rattle.std.specs.Prelude.{IsTrue, Option, false, true}
 use Rattle.slotted_slots.specs.declared.error.Error.{Error}
+use Rattle.slotted_slots.specs.declared.error.Error.TheVariants.{OutOfMemory}
 use Rattle.slotted_slots.specs.Syntax.{Element}
+use Rattle.slotted_slots.specs.Table.{Table, gives, named_of}
+use Rattle.slotted_slots.proofs.TableLaws.{KnowsMore-refl}
 use Rattle.slotted_nodes.specs.Form.{Form}
 use Rattle.slotted_operations.specs.Graph.{Graph, OnlyReads}
 use Rattle.slotted_explain.proofs.CallerLemmas.{reads_twice}
 use Rattle.slotted_graph.specs.Extension.{ExtendsTo}
 use Rattle.slotted_graph.proofs.Extending.{extends-read, extends-then}
-use Rattle.slotted_rule_texts.specs.Asked.{Condition}
+use Rattle.slotted_rule_texts.specs.Asked.{Condition, Rule}
 use Rattle.slotted_rules.specs.declared.condition_tree.CondTree.{CondTree}
 use Rattle.slotted_rules.specs.declared.rewrite.Rewrite.{Rewrite}
 use Rattle.slotted_workspace.specs.Asked.{HadFailed}
-use Rattle.slotted_workspace.specs.RuleTexts.{ConditionRefused, ReadsConditional}
+use Rattle.slotted_workspace.specs.RuleTexts.{AsksAll, ConditionRefused, ConditionalRefused, IsBothOf, IsConditionFor, ReadsConditional, RulesRefused, asks_more, back_refused, no_memory}
 
 -- a graph from which only texts were read, and none if it had failed
 pub record HasRead (g k : Graph) : Type 0 where
   pub only : OnlyReads g k
   pub stays : IsTrue g.failed → k ≡ g
+
+pub read-nothing : (g : Graph) → HasRead g g
+read-nothing g = record {
+  only = record { image = refl; filed = refl; part = refl; failed = refl; more = KnowsMore-refl g.table };
+  stays = λ f. refl;
+}
 
 module _ (g k h : Graph) (before : HasRead g k) where
   pub read-then : HasRead k h → HasRead g h
@@ -45,3 +54,18 @@ module _ {L : Type 0} (form : L → Form) (read : List Element → Option Form) 
 
   pub conditional-well : g.failed ≡ false
   conditional-well = sym reads.names.failed ∙ reads.reads.well
+
+-- the rule that goes back was refused
+pub second-refused : {L : Type 0} (form : L → Form) (read : List Element → Option Form) (g k h : Graph) (a : Rule) (r : Rewrite L CondTree) → a.both ≡ true → ReadsConditional form read g k a.name a.left a.right a.conditions r → (e : Error) →
+    ConditionalRefused form read k h a.right a.left a.conditions e ⊎ ((h ≡ k) × (e ≡ OutOfMemory)) → RulesRefused form read g h a e
+second-refused form read g k h a r both reads e (inl refused) = back_refused r k both reads refused
+second-refused form read g k h a r both reads e (inr m) =
+    no_memory (subst (λ (x : Graph). OnlyReads g x) (sym m.0) (conditional-only form read g k a.name a.left a.right a.conditions r reads)) m.1
+
+-- one condition more
+pub one-more : (t u v : Table) (cs : List Condition) (c : Condition) (first next x : CondTree) (slot : ℕ) → AsksAll t first cs u → named_of u c.slot ≡ gives slot v → IsConditionFor c slot next → IsBothOf first next x → AsksAll t x (cs ++ c ∷ []) v
+one-more t u v cs c first next x slot asks named is both =
+    let a = both.left in
+    let b = both.right in
+    subst (λ (y : CondTree). AsksAll t y (cs ++ c ∷ []) v) (sym both.is)
+    (asks_more t u v a b cs c slot (subst (λ (y : CondTree). AsksAll t y cs u) (sym both.left_is) asks) named (subst (IsConditionFor c slot) (sym both.right_is) is))

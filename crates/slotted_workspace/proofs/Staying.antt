@@ -1,7 +1,7 @@
 -- What is kept stays so in a graph that extends the one before.
 use Rattle.std.proofs.Common.{◌≡◌, ◌⊎◌, ◌∙◌, ◌++◌, List, [], ◌∷◌, sym, subst, inl, inr}
 use Rattle.std.specs.Prelude.{All, IsTrue}
-use Rattle.std.proofs.lemmas.List.Elements.{All-nil, All-push, All-weaker}
+use Rattle.std.proofs.lemmas.List.Elements.{All-append, All-nil, All-push, All-weaker}
 use Rattle.slotted_theory.specs.Nameless.{nameless}
 use Rattle.slotted_nodes.specs.Form.{Form}
 use Rattle.slotted_operations.specs.Graph.{Graph}
@@ -40,6 +40,10 @@ module _ {L : Type 0} (form : L → Form) where
   pub sane-with_rule : (h : Graph) (kept : List (Kept L)) (rules now : List (Rewrite L CondTree)) (r : Rewrite L CondTree) → CanBeSearched form h.table r → now ≡ rules ++ r ∷ [] → IsSane form h kept rules → IsSane form h kept now
   sane-with_rule h kept rules now r v is (inl f) = inl f
   sane-with_rule h kept rules now r v is (inr all) = inr (all.0, subst (All (CanBeSearched form h.table)) (sym is) (All-push (CanBeSearched form h.table) rules r all.1 v))
+
+  pub sane-with_rules : (h : Graph) (kept : List (Kept L)) (rules more now : List (Rewrite L CondTree)) → All (CanBeSearched form h.table) more → now ≡ rules ++ more → IsSane form h kept rules → IsSane form h kept now
+  sane-with_rules h kept rules more now v is (inl f) = inl f
+  sane-with_rules h kept rules more now v is (inr all) = inr (all.0, subst (All (CanBeSearched form h.table)) (sym is) (All-append (CanBeSearched form h.table) rules more all.1 v))
 
   pub sane-empty : (h : Graph) → IsSane form h [] []
   sane-empty h = inr (All-nil (IsKept h), All-nil (CanBeSearched form h.table))

@@ -3,6 +3,7 @@ ghost use Rattle.std.specs.Prelude.{◌≡◌};
 ghost use Rattle.slotted_workspace.specs.declared.error.WorkspaceError.TheVariants.{Graph};
 ghost use Rattle.slotted_slots.specs.declared.error.Error.TheVariants.{OutOfMemory};
 
+use slotted_messages::Message;
 use slotted_rule_texts::RuleTextError;
 use slotted_slots::Error as GraphError;
 use std::alloc::{AllocError, AllocFailed};
@@ -18,7 +19,7 @@ pub enum WorkspaceError {
     #[error("{0}")]
     RuleText(RuleTextError),
     /// The graph returned this error.
-    #[error("{0}")]
+    #[error("{message}", message = Message::of(.0))]
     Graph(GraphError),
 }
 

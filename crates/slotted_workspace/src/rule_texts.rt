@@ -128,9 +128,10 @@ fn read_rules<L: Language>(
     )?;
     let mut rules = Vec::new(alloc);
     rules.push(first)?;
-    if asked.both {
-        rules.push(read_back(alloc, graph, asked)?)?;
+    if !asked.both {
+        return Ok(rules);
     }
+    rules.push(read_back(alloc, graph, asked)?)?;
     Ok(rules)
 }
 

@@ -1,3 +1,7 @@
+use Rattle.std.proofs.Common.{◌∙◌, ap, subst}
+use Rattle.std.specs.Prelude.{map}
+use Rattle.slotted_workspace.specs.Spaces.{Space, rule_of}
+use Rattle.slotted_workspace.specs.Turns.{TakesTurn}
 use Rattle.slotted_workspace.proofs.Methods.{can-run}
 use Rattle.slotted_workspace.proofs.Staying.{sane-later}
 use Rattle.slotted_workspace.proofs.workspace.Workspace.turn.Goals as goal
@@ -16,3 +20,14 @@ pub invariant_of-self-2 : goal.invariant_of-self-2
 invariant_of-self-2 g c =
     let w = c.self.inside in
     sane-later g.L.LanguageChildren.form w.graph c.take_turn.new.graph w.kept.items w.rules.items c.in_ok-take_turn.ensures.extends c.in_ok-take_turn.ensures.stays c.self.invariant
+
+pub returns-clause-ok : goal.returns-clause-ok
+returns-clause-ok g c =
+    let form = g.L.LanguageChildren.form in
+    let rules = c.deref.result.now in
+    let view = c.self.view_is in
+    (
+      rules,
+      ap (map (rule_of form)) c.deref.ensures.value ∙ (λ i. (view i).rules),
+      subst (λ (x : Space). TakesTurn form rules x.graph c.take_turn.new.graph c.in_ok-take_turn.field-0) view c.in_ok-take_turn.ensures.ok,
+    )
