@@ -5,7 +5,8 @@ use Rattle.std.proofs.lemmas.List.{at_drop_more, at_drop_all}
 use borrow.Author.Tests.{tests}
 use Rattle.std.specs.Prelude.{Bool, true, false, not, ◌&&◌, if◌then◌else◌, ◌==◌, ◌≢◌, Option, Some, None, slice_get, slice_index}
 use Rattle.std.specs.Str.{chars}
-use Rattle.slotted_messages.specs.Columns.{behind, is_of_run, shows_word, shown_at, words_from, word_columns}
+use Rattle.slotted_messages.specs.Columns.{behind, shows_word, shown_at, words_from, word_columns}
+use Rattle.slotted_patterns.specs.Tokens.{is_of_run}
 use Rattle.slotted_messages.specs.declared.columns.Before.{Before}
 use Rattle.slotted_messages.specs.declared.columns.Before.TheVariants.{Free, Colon, Run}
 use Rattle.slotted_messages.proofs.Reading.{IsNext, get_behind}

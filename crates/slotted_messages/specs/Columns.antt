@@ -2,18 +2,14 @@
 --     begins b c            whether a token begins with a character, by what stands in front of it
 --     token_columns bs      the columns at which the tokens of a text begin
 --     word_columns bs       those at which words begin: tokens that are neither variables, slots, brackets nor `:=`
-use Rattle.std.specs.Prelude.{ℕ, ◌+◌, ◌-◌, slice_index, Bool, true, false, not, ◌&&◌, ◌||◌, ◌==◌, if◌then◌else◌, List, [], ◌∷◌}
-use Rattle.std.specs.Char.{is_whitespace}
+use Rattle.std.specs.Prelude.{ℕ, ◌+◌, ◌-◌, is_some, Bool, true, false, not, ◌&&◌, ◌||◌, ◌==◌, if◌then◌else◌, List, [], ◌∷◌}
 use Rattle.std.specs.Str.{chars}
+use Rattle.slotted_patterns.specs.Tokens.{bracket_of, is_of_run, is_colon_equals}
 use Rattle.slotted_messages.specs.declared.columns.Before.{Before}
 use Rattle.slotted_messages.specs.declared.columns.Before.TheVariants.{Free, Colon, Run}
 
 abbrev pub is_bracket : ℕ → Bool
-is_bracket c = c == 40 || c == 41 || c == 91 || c == 93
-
--- neither white space nor a bracket
-abbrev pub is_of_run : ℕ → Bool
-is_of_run c = not (is_whitespace c || is_bracket c)
+is_bracket c = is_some (bracket_of c)
 
 abbrev pub is_free : Before → Bool
 is_free Free = true
@@ -41,10 +37,6 @@ columns_from b n (c ∷ cs) =
 
 unfoldable pub token_columns : List ℕ → List ℕ
 token_columns bs = columns_from Free 1 (chars bs)
-
--- the characters of `:=`
-abbrev pub is_colon_equals : ℕ → List ℕ → Bool
-is_colon_equals c cs = c == 58 && slice_index cs 0 == 61
 
 -- a word begins with a character: neither a variable, a slot, a bracket nor `:=`
 abbrev pub begins_word : Before → ℕ → List ℕ → Bool

@@ -1,7 +1,9 @@
 //! Columns of tokens and of words, in characters from 1.
 ghost use Rattle.std.specs.Prelude.{◌≡◌, length, slice_get};
 ghost use Rattle.std.specs.Str.{chars};
-ghost use Rattle.slotted_messages.specs.Columns.{is_of_run, is_bracket, begins, behind, shows_word, shown_at, token_columns, word_columns};
+ghost use Rattle.slotted_patterns.specs.Tokens.{is_of_run};
+ghost use Rattle.slotted_messages.specs.Parsed.{CountsTokens, IsColumnBehind};
+ghost use Rattle.slotted_messages.specs.Columns.{is_bracket, begins, behind, shows_word, shown_at, token_columns, word_columns};
 
 /// What stands in front of a character, as far as tokens depend on it.
 #[derive(Clone, Copy, Debug, PartialEq, Eq)]
@@ -52,7 +54,8 @@ impl Before {
 
 /// Returns how many tokens a text has, by the rules of the parser.
 pub fn token_count(text: &str) -> usize
-    ensures { result ≡ length (token_columns text.now) }
+    ensures count { result ≡ length (token_columns text.now) }
+    ensures parsed { CountsTokens text.now result }
 {
     let mut count = 0;
     let mut before = Before::Free;
@@ -68,7 +71,8 @@ pub fn token_count(text: &str) -> usize
 
 /// Returns the column at which a token begins, by its number from 0. `None` if the text has fewer tokens.
 pub fn token_column(text: &str, number: usize) -> Option<usize>
-    ensures { result ≡ slice_get (token_columns text.now) number }
+    ensures column { result ≡ slice_get (token_columns text.now) number }
+    ensures parsed { IsColumnBehind text.now number result }
 {
     let mut left = number;
     let mut column = 0;

@@ -3,6 +3,9 @@ use Rattle.std.proofs.lemmas.Iterator.{YieldsList-from_chars}
 use Rattle.std.proofs.lemmas.Iterator.Consumers.{YieldsList-turn, YieldsList-end}
 use Rattle.std.proofs.lemmas.List.{length_push}
 use Rattle.std.specs.Str.{chars}
+use Rattle.std.specs.Prelude.{◌≡◌}
+use Rattle.slotted_messages.specs.Columns.{token_columns}
+use Rattle.slotted_messages.proofs.ParserTokens.{parser_counts}
 use Rattle.slotted_messages.proofs.Reading.{all_left, counted_begun, counted_later, left_none}
 use Rattle.slotted_messages.proofs.columns.token_count.Goals as goal
 
@@ -29,4 +32,5 @@ pub returns : goal.returns
 returns c =
     let end = YieldsList-end (YieldsList-from_chars c.args.text.now c.utf8.text cc) c.loop-c.yielded _ c.loop-c.yielded_by _ _ c.in-None.is c.next.ensures.steps in
     let none = left_none c.loop-c.before (chars c.args.text.now) (length c.loop-c.yielded) (omega (arith, end.1)) in
-    omega (arith, c.loop-c.invariant.counted, ap length none)
+    let count : c.loop-c.count ≡ length (token_columns c.args.text.now) = omega (arith, c.loop-c.invariant.counted, ap length none) in
+    record { count = count; parsed = parser_counts c.args.text.now _ count }
