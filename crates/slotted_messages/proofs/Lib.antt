@@ -2,3 +2,4 @@
 pub mod Reading
 pub mod Words
 pub mod ParserTokens
+pub mod Marks

@@ -29,11 +29,18 @@ behind_of_run Run c = Run
 abbrev pub behind : Before → ℕ → Before
 behind b c = if is_of_run c then behind_of_run b c else Free
 
--- the columns at which tokens begin in characters, of which the first is at column n
+-- the columns at which that begins of which a test tells, in characters of which the first is at column n. The test is told what stands
+-- in front of a character, the character, and what follows it
+abbrev pub columns_of : (Before → ℕ → List ℕ → Bool) → Before → ℕ → List ℕ → List ℕ
+columns_of test b n [] = []
+columns_of test b n (c ∷ cs) =
+    if test b c cs then n ∷ columns_of test (behind b c) (n + 1) cs else columns_of test (behind b c) (n + 1) cs
+
+abbrev pub begins_token : Before → ℕ → List ℕ → Bool
+begins_token b c cs = begins b c
+
 abbrev pub columns_from : Before → ℕ → List ℕ → List ℕ
-columns_from b n [] = []
-columns_from b n (c ∷ cs) =
-    if begins b c then n ∷ columns_from (behind b c) (n + 1) cs else columns_from (behind b c) (n + 1) cs
+columns_from b n cs = columns_of begins_token b n cs
 
 unfoldable pub token_columns : List ℕ → List ℕ
 token_columns bs = columns_from Free 1 (chars bs)
@@ -42,11 +49,8 @@ token_columns bs = columns_from Free 1 (chars bs)
 abbrev pub begins_word : Before → ℕ → List ℕ → Bool
 begins_word b c cs = is_free b && is_of_run c && not (c == 63) && not (c == 36) && not (is_colon_equals c cs)
 
--- the columns at which words begin in characters, of which the first is at column n
 abbrev pub words_from : Before → ℕ → List ℕ → List ℕ
-words_from b n [] = []
-words_from b n (c ∷ cs) =
-    if begins_word b c cs then n ∷ words_from (behind b c) (n + 1) cs else words_from (behind b c) (n + 1) cs
+words_from b n cs = columns_of begins_word b n cs
 
 unfoldable pub word_columns : List ℕ → List ℕ
 word_columns bs = words_from Free 1 (chars bs)

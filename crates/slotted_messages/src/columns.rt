@@ -2,7 +2,7 @@
 ghost use Rattle.std.specs.Prelude.{◌≡◌, length, slice_get};
 ghost use Rattle.std.specs.Str.{chars};
 ghost use Rattle.slotted_patterns.specs.Tokens.{is_of_run};
-ghost use Rattle.slotted_messages.specs.Parsed.{CountsTokens, IsColumnBehind};
+ghost use Rattle.slotted_messages.specs.Parsed.{CountsTokens, IsColumnBehind, IsColumnOfWord, IsNonePastWords};
 ghost use Rattle.slotted_messages.specs.Columns.{is_bracket, begins, behind, shows_word, shown_at, token_columns, word_columns};
 
 /// What stands in front of a character, as far as tokens depend on it.
@@ -116,7 +116,9 @@ fn shown_at(before: Before, column: usize) -> usize
 ///
 /// A word is a token that is neither a variable, a slot, a bracket nor `:=`.
 pub fn word_column(text: &str, number: usize) -> Option<usize>
-    ensures { result ≡ slice_get (word_columns text.now) number }
+    ensures column { result ≡ slice_get (word_columns text.now) number }
+    ensures parsed { IsColumnOfWord text.now number result }
+    ensures past { IsNonePastWords text.now number result }
 {
     let mut left = number;
     let mut column = 0;

@@ -45,6 +45,14 @@ fn write_no_term<W: fmt::Write>(f: &mut fmt::Formatter<W>, text: &str) -> fmt::R
     }
 }
 
+// Writes that a name is lacking. A rule's condition names a slot by its sign alone.
+fn write_missing<W: fmt::Write>(f: &mut fmt::Formatter<W>, name: &str) -> fmt::Result {
+    if name == "$" {
+        return f.write_str("the condition names a slot that the left side lacks");
+    }
+    write!(f, "the variable ?{name} has no value")
+}
+
 impl<'a> fmt::Display for Message<'a> {
     fn fmt<W: fmt::Write>(&self, f: &mut fmt::Formatter<W>) -> fmt::Result {
         match self.error {
@@ -53,7 +61,7 @@ impl<'a> fmt::Display for Message<'a> {
                 Some(text) => write_no_term(f, text),
                 None => f.write_str("a variable or a substitution stands where a term is needed"),
             },
-            Error::MissingVariable(name) => write!(f, "the variable ?{name} has no value"),
+            Error::MissingVariable(name) => write_missing(f, name.as_str()),
             other => write!(f, "{other}"),
         }
     }

@@ -137,3 +137,36 @@ fn messages_say_the_place(rt: HostRuntime) {
         check(&rt, alloc, &Message::of_text(&error, text), said);
     }
 }
+
+#[test]
+fn messages_without_a_text_say_what_remains(rt: HostRuntime) {
+    let alloc = rt.alloc();
+    let error = wants("]", tokens(&rt, alloc, 2));
+    check(
+        &rt,
+        alloc,
+        &Message::of(&error),
+        "`]` is wanted in front of `))`",
+    );
+    let error = no_node(&rt, alloc);
+    check(
+        &rt,
+        alloc,
+        &Message::of(&error),
+        "the language has no e-node `(add $.. _)`",
+    );
+    let name = String::from_str(alloc, "v").expect(&rt, "out of memory");
+    let error = Error::MissingVariable(name);
+    check(
+        &rt,
+        alloc,
+        &Message::of(&error),
+        "the variable ?v has no value",
+    );
+    check(
+        &rt,
+        alloc,
+        &Message::of(&Error::NotEqual),
+        "the terms are not equal",
+    );
+}

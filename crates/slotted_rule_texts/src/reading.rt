@@ -1,7 +1,7 @@
 //! The reading of a rule's text.
 ghost use Rattle.std.specs.Prelude.{◌≡◌, [], Some, None, Option, map, option_map, MatchOption, IfOk, IfErr};
-ghost use Rattle.slotted_rule_texts.specs.Asked.{named_condition, condition_asked, conditions_asked, sides_asked, rule_by, conditional_or, named_asked, rule_asked, asks};
-ghost use Rattle.slotted_rule_texts.specs.Told.{told_condition, told_rule, IsRefused, AreRefused};
+ghost use Rattle.slotted_rule_texts.specs.Asked.{named_condition, condition_asked, conditions_asked, sides_asked, rule_by, conditional_or, named_asked, rule_asked};
+ghost use Rattle.slotted_rule_texts.specs.Told.{told_condition, Tells, IsRefused, AreRefused};
 
 use crate::name::is_name;
 use crate::{RuleText, RuleTextError, SlotCondition};
@@ -56,7 +56,7 @@ fn read_sides<'a>(
     name: &'a str,
     sides: &'a str,
 ) -> Result<RuleText<'a>, RuleTextError>
-    ensures ok { IfOk result (λ r. rule_by name.now (sides_asked sides.now) (Some []) ≡ asks (told_rule r)) }
+    ensures ok { IfOk result (Tells (rule_by name.now (sides_asked sides.now) (Some []))) }
     ensures err { IfErr result (λ e. (e ≡ RuleTextError.NoSign) × (sides_asked sides.now ≡ None)) }
 {
     let conditions = Vec::new(alloc);
@@ -88,7 +88,7 @@ fn read_conditional<'a>(
     sides: &'a str,
     asked: &'a str,
 ) -> Result<RuleText<'a>, RuleTextError>
-    ensures ok { IfOk result (λ r. rule_by name.now (sides_asked sides.now) (conditions_asked asked.now) ≡ asks (told_rule r)) }
+    ensures ok { IfOk result (Tells (rule_by name.now (sides_asked sides.now) (conditions_asked asked.now))) }
     ensures err { IfErr result (IsRefused (rule_by name.now (sides_asked sides.now) (conditions_asked asked.now))) }
 {
     let mut rule = read_sides(alloc, name, sides)?;
@@ -102,7 +102,7 @@ fn read_named<'a>(
     name: &'a str,
     rest: &'a str,
 ) -> Result<RuleText<'a>, RuleTextError>
-    ensures ok { IfOk result (λ r. named_asked name.now rest.now ≡ asks (told_rule r)) }
+    ensures ok { IfOk result (Tells (named_asked name.now rest.now)) }
     ensures err { IfErr result (IsRefused (named_asked name.now rest.now)) }
 {
     if name.is_empty() {
@@ -121,7 +121,7 @@ impl<'a> RuleText<'a> {
     /// looked for first, and then ` => `. A sign has a space on both sides, so `(=> a b)` is a term. No white space is
     /// dropped.
     pub fn read(alloc: Global, text: &'a str) -> Result<RuleText<'a>, RuleTextError>
-        ensures ok { IfOk result (λ r. rule_asked text.now ≡ asks (told_rule r)) }
+        ensures ok { IfOk result (Tells (rule_asked text.now)) }
         ensures err { IfErr result (IsRefused (rule_asked text.now)) }
     {
         match text.split_once(": ") {

@@ -57,7 +57,7 @@ fn show_turn(rt: &HostRuntime, shell: &Shell, number: u32, counts: &TurnCounts) 
     for rule in &counts.rules {
         unions = unions.saturating_add(rule.united);
     }
-    print!(rt; "  turn {number}: {nodes} e-nodes, {classes} classes, {unions} unions")?;
+    print!(rt; "  turn {number}: {nodes} e-nodes, {classes} classes, {unions} united")?;
     for (line, rule) in shell.rules.iter().zip(&counts.rules) {
         if rule.found > 0 {
             let name = &line.name;

@@ -10,7 +10,8 @@ use crate::symbol_lang::SymbolLang;
 /// A slot comes before a child. Slots are compared by value, and children by their classes and then by their maps. If
 /// all arguments of the shorter list stand in the longer one too, the e-node with fewer arguments comes first.
 ///
-/// Extraction takes the least of e-nodes that cost the same, so the one whose word comes first.
+/// Of e-nodes of a class that cost the same, each over cheaper children, extraction takes the least: the one whose word
+/// comes first.
 pub fn symbols_are_ordered()
     ensures { (a b : SymbolLang) → ⟦<SymbolLang as Ord>⟧.cmp a b ≡ symbol_cmp a b }
 {}

@@ -1,7 +1,8 @@
 //! The program `slotted_transcripts`: sessions in, answers out.
 //!
 //! A line `---` ends a session, and the next one has a graph and rules of its own. A line that begins with `# ` is a
-//! title. Both are written as they stand.
+//! title. Both are written as they stand, and so is a line `===`. It ends the sessions over `Small`: those behind it are
+//! over `SymbolLang`.
 //!
 //! A line that begins with `? ` is a question of `slotted_questions`. Each other line is answered as by the program
 //! `slotted`.
@@ -24,6 +25,7 @@ use slotted_proofs::ProvenEq;
 use slotted_questions::rows::answer_of_either;
 use slotted_slots::{Error, SlotTable};
 use slotted_small::Small;
+use slotted_symbols::SymbolLang;
 use slotted_terms::expr::printing::Printable;
 use std::alloc::Global;
 use std::io;
@@ -34,6 +36,13 @@ fn is_divider(line: &[u8]) -> bool
     ensures { IsTrue result ↔ strip_last 10 line.now ≡ codes "---" }
 {
     line.strip_suffix(b"\n").unwrap_or(line) == b"---".as_slice()
+}
+
+// Returns whether a line ends the sessions over its language.
+fn is_change(line: &[u8]) -> bool
+    ensures { IsTrue result ↔ strip_last 10 line.now ≡ codes "===" }
+{
+    line.strip_suffix(b"\n").unwrap_or(line) == b"===".as_slice()
 }
 
 // Returns whether a line is the title of a session.
@@ -130,8 +139,10 @@ fn answer_or_repeat<L: Printable, W: Write>(
         × OnOk result (Appends (W.contents output.old) (W.contents output.new) line.now) }
     ensures divider { strip_last 10 line.now ≡ codes "---" → (session.new ≡ session.old)
         × OnOk result (Appends (W.contents output.old) (W.contents output.new) line.now) }
+    ensures change { strip_last 10 line.now ≡ codes "===" → (session.new ≡ session.old)
+        × OnOk result (Appends (W.contents output.old) (W.contents output.new) line.now) }
 {
-    if is_title(line) || is_divider(line) {
+    if is_title(line) || is_divider(line) || is_change(line) {
         output.write_all(line)
     } else {
         answer_or_ask(alloc, session, other, known, line, output)
@@ -180,8 +191,8 @@ fn answer_lines<L: Printable, R: BufRead, W: Write>(
         }
         answer_or_repeat(alloc, session, other, known, &line, output)?;
         compare_finds(alloc, &mut plain, &session.graph, output)?;
-        if is_divider(&line) {
-            return Ok(true);
+        if is_divider(&line) || is_change(&line) {
+            return Ok(is_divider(&line));
         }
     }
     Err(io::Error::from(ErrorKind::FileTooLarge))
@@ -224,7 +235,7 @@ fn answer_next<L: Printable, R: BufRead, W: Write>(
     }
 }
 
-// Answers one session after another up to the end of the input.
+// Answers one session after another, up to a line `===` or the end of the input.
 fn answer_sessions<L: Printable, R: BufRead, W: Write>(
     alloc: Global,
     input: &mut R,
@@ -243,5 +254,6 @@ fn main(rt: HostRuntime) -> io::Result<()> {
     let mut input = BufReader::new(alloc, rt.reader())?;
     let mut output = BufWriter::new(alloc, io::writer(&rt))?;
     answer_sessions::<Small, _, _>(alloc, &mut input, &mut output)?;
+    answer_sessions::<SymbolLang, _, _>(alloc, &mut input, &mut output)?;
     output.flush()
 }

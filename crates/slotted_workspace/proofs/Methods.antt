@@ -17,6 +17,7 @@ use Rattle.slotted_rules.specs.declared.condition_tree.CondTree.{CondTree}
 use Rattle.slotted_rules.specs.declared.rewrite.Rewrite.{Rewrite}
 use Rattle.slotted_workspace.specs.Asked.{AddRefused, AddsKept, AddsTerm, ChangesGraph, KeepsRule, OfBoth, OfOne, ReadsRule, Refuses, RefusesBoth, RefusesOne, RuleRefused}
 use Rattle.slotted_workspace.specs.Asked as asked
+use Rattle.slotted_workspace.specs.RuleTexts.{KeepsRules, ReadsText, RefusesText, TextRefused, no_memory}
 use Rattle.slotted_workspace.specs.Keeping.{IsKept, IsSane, found_in, terms_of}
 use Rattle.slotted_workspace.specs.Spaces.{Space, rule_of, term_at}
 use Rattle.slotted_workspace.specs.declared.error.WorkspaceError.{WorkspaceError}
@@ -25,6 +26,7 @@ use Rattle.slotted_workspace.specs.declared.error.WorkspaceError.TheVariants as 
 use Rattle.slotted_workspace.specs.declared.handle.Handle.{Handle}
 use Rattle.slotted_workspace.specs.declared.kept.Kept.{Kept}
 use Rattle.slotted_workspace.proofs.Places.{one-of, stands-for, stands-for_none, stands-next}
+use Rattle.slotted_workspace.proofs.RuleTexts.{rules-only}
 use Rattle.slotted_workspace.proofs.Staying.{kept-later}
 
 -- a workspace as its callers see it
@@ -126,6 +128,26 @@ module _ {L : Type 0} (form : L → Form) (n : ℕ) (g : Graph) (kept : List (Ke
     pub rule-not_kept : (r : Rewrite L CondTree) (now : List (Rewrite L CondTree)) → now ≡ rules → ReadsRule form read g h name left right condition r → Refuses s (seen form n h kept now) (RuleRefused form read s.graph h left right condition) (refusal.Graph OutOfMemory)
     rule-not_kept r now same reads =
         subst (λ (l : List (Rewrite L CondTree)). Refuses s (seen form n h kept l) (RuleRefused form read s.graph h left right condition) (refusal.Graph OutOfMemory)) (sym same) (rule-refused OutOfMemory (asked.RuleRefused.not_kept reads.well reads.only refl))
+
+  -- where the rules of a text are kept
+  module _ (read : List Element → Option Form) (h : Graph) (text : List ℕ) where
+    pub rules-answered : (more now : List (Rewrite L CondTree)) → now ≡ rules ++ more → ReadsText form read g h text more → KeepsRules form read s (seen form n h kept now) text
+    rules-answered more now pushed reads =
+        let all : map (rule_of form) now ≡ map (rule_of form) rules ++ map (rule_of form) more = ap (map (rule_of form)) pushed ∙ map-append (rule_of form) rules more in
+        record {
+          rules = more;
+          reads = subst (λ (x : Space). ReadsText form read x.graph h text more) is reads;
+          rest = (λ i. record { number = n; graph = h; terms = terms_of kept; rules = all i }) ∙ (λ i. record (is i) { graph = h; rules = (is i).rules ++ map (rule_of form) more });
+        }
+
+    pub rules-refused : (e : WorkspaceError) → TextRefused form read g h text e → RefusesText form read s (seen form n h kept rules) text e
+    rules-refused e r = (subst (λ (x : Space). TextRefused form read x.graph h text e) is r, changes h)
+
+    -- there was no memory to keep them
+    pub rules-not_kept : (more now : List (Rewrite L CondTree)) → now ≡ rules → ReadsText form read g h text more → RefusesText form read s (seen form n h kept now) text (refusal.Graph OutOfMemory)
+    rules-not_kept more now same reads =
+        subst (λ (l : List (Rewrite L CondTree)). RefusesText form read s (seen form n h kept l) text (refusal.Graph OutOfMemory)) (sym same)
+        (rules-refused (refusal.Graph OutOfMemory) (reads.asked, reads.is_asked, no_memory (rules-only form read g h reads.asked more reads.reads) refl))
 
 -- the rules of a workspace can be run
 pub can-run : {L : Type 0} (form : L → Form) (g : Graph) (kept : List (Kept L)) (rules read : List (Rewrite L CondTree)) → read ≡ rules → IsSane form g kept rules → IsTrue g.failed ⊎ All (CanBeSearched form g.table) read

@@ -15,7 +15,7 @@ use Rattle.slotted_rule_texts.specs.Asked.{Condition, Rule}
 use Rattle.slotted_rules.specs.declared.condition_tree.CondTree.{CondTree}
 use Rattle.slotted_rules.specs.declared.rewrite.Rewrite.{Rewrite}
 use Rattle.slotted_workspace.specs.Asked.{HadFailed}
-use Rattle.slotted_workspace.specs.RuleTexts.{AsksAll, ConditionRefused, ConditionalRefused, IsBothOf, IsConditionFor, ReadsConditional, RulesRefused, asks_more, back_refused, no_memory}
+use Rattle.slotted_workspace.specs.RuleTexts.{AsksAll, ConditionRefused, ConditionalRefused, IsBothOf, IsConditionFor, ReadsConditional, ReadsRules, RulesRefused, asks_more, back_refused, both_ways, name_back, no_memory, one_way}
 
 -- a graph from which only texts were read, and none if it had failed
 pub record HasRead (g k : Graph) : Type 0 where
@@ -69,3 +69,10 @@ one-more t u v cs c first next x slot asks named is both =
     let b = both.right in
     subst (λ (y : CondTree). AsksAll t y (cs ++ c ∷ []) v) (sym both.is)
     (asks_more t u v a b cs c slot (subst (λ (y : CondTree). AsksAll t y cs u) (sym both.left_is) asks) named (subst (IsConditionFor c slot) (sym both.right_is) is))
+
+-- texts alone were read for the rules
+pub rules-only : {L : Type 0} (form : L → Form) (read : List Element → Option Form) (g h : Graph) (a : Rule) (rules : List (Rewrite L CondTree)) → ReadsRules form read g h a rules → OnlyReads g h
+rules-only form read g h a rules (one_way r back is reads) = conditional-only form read g h a.name a.left a.right a.conditions r reads
+rules-only form read g h a rules (both_ways r q k back is first second) =
+    reads_twice g k h (conditional-only form read g k a.name a.left a.right a.conditions r first)
+    (conditional-only form read k h (name_back a.name) a.right a.left a.conditions q second)

@@ -4,7 +4,7 @@ use Rattle.std.proofs.lemmas.Iterator.Consumers.{YieldsList-turn, YieldsList-end
 use Rattle.std.proofs.lemmas.List.{length_push}
 use Rattle.std.specs.Str.{chars}
 use Rattle.slotted_messages.specs.Columns.{token_columns}
-use Rattle.slotted_messages.proofs.ParserTokens.{parser_begins}
+use Rattle.slotted_messages.proofs.Marks.{parser_begins}
 use Rattle.slotted_messages.proofs.Reading.{all_left, found_begun, left_begun_at, left_later_at, none_left_at}
 use Rattle.slotted_messages.proofs.columns.token_column.Goals as goal
 

@@ -5,7 +5,7 @@ use Rattle.std.proofs.lemmas.List.{length_push}
 use Rattle.std.specs.Str.{chars}
 use Rattle.std.specs.Prelude.{◌≡◌}
 use Rattle.slotted_messages.specs.Columns.{token_columns}
-use Rattle.slotted_messages.proofs.ParserTokens.{parser_counts}
+use Rattle.slotted_messages.proofs.Marks.{parser_counts}
 use Rattle.slotted_messages.proofs.Reading.{all_left, counted_begun, counted_later, left_none}
 use Rattle.slotted_messages.proofs.columns.token_count.Goals as goal
 

@@ -1,7 +1,7 @@
-use Rattle.std.proofs.Common.{◌≡◌, ap, sym, ◌∙◌, subst, Some, [], IfOk, IfErr}
+use Rattle.std.proofs.Common.{ap, sym, ◌∙◌, subst, Some, [], IfOk, IfErr}
 use Rattle.std.specs.Prelude.{codes}
-use Rattle.slotted_rule_texts.specs.Asked.{RuleAsked, asks, conditional_or, sides_asked}
-use Rattle.slotted_rule_texts.specs.Told.{told_rule, IsRefused}
+use Rattle.slotted_rule_texts.specs.Asked.{RuleAsked, conditional_or, sides_asked}
+use Rattle.slotted_rule_texts.specs.Told.{Tells, IsRefused}
 use Rattle.slotted_rule_texts.proofs.Asking.{named_empty, named_some, sign_refused}
 use Rattle.slotted_rule_texts.proofs.Splitting.{parts_around-none, split}
 use Rattle.slotted_rule_texts.proofs.reading.read_named.Goals as goal
@@ -15,7 +15,7 @@ returns-in-Some-clause-ok c =
     let name = c.args.name.now in
     let parts = split (codes " if $") rest _ _ c.in-Some.ensures.cases in
     let named = sym (ap (λ p. conditional_or name p rest) parts) ∙ named_some name rest (sym c.is_empty.ensures ∙ c.if-is_empty.false) in
-    subst (λ (a : RuleAsked). IfOk c.read_conditional.result (λ r. a ≡ asks (told_rule r))) named c.read_conditional.ensures.ok
+    subst (λ (a : RuleAsked). IfOk c.read_conditional.result (Tells a)) named c.read_conditional.ensures.ok
 
 pub returns-in-Some-clause-err : goal.returns-in-Some-clause-err
 returns-in-Some-clause-err c =
@@ -31,7 +31,7 @@ returns-in-None-clause-ok c =
     let name = c.args.name.now in
     let none = parts_around-none (codes " if $") rest c.in-None.ensures.cases in
     let named = sym (ap (λ p. conditional_or name p rest) none) ∙ named_some name rest (sym c.is_empty.ensures ∙ c.if-is_empty.false) in
-    subst (λ (a : RuleAsked). IfOk c.read_sides.result (λ r. a ≡ asks (told_rule r))) named c.read_sides.ensures.ok
+    subst (λ (a : RuleAsked). IfOk c.read_sides.result (Tells a)) named c.read_sides.ensures.ok
 
 pub returns-in-None-clause-err : goal.returns-in-None-clause-err
 returns-in-None-clause-err c =
