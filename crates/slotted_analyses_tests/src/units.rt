@@ -4,7 +4,7 @@ use crate::graphs::{empty, put, unite};
 use slotted_analyses::Analysis;
 use slotted_const_fold::ConstFold;
 use slotted_graph::EGraph;
-use slotted_rules::{Cond, DataPasses, Rewrite, RewriteT, apply_rewrites, are_valid};
+use slotted_rules::{Cond, DataPasses, ReadsNames, Rewrite, RewriteT, apply_rewrites, are_valid};
 use slotted_slots::Error;
 use slotted_small::Small;
 use std::alloc::Global;
@@ -34,7 +34,7 @@ fn apply_one<R: RewriteT<Small, ConstFold>>(
 }
 
 // Applies `(mul ?x ?y) => ?x` once, under a condition.
-fn apply_under<C: Cond<Small, ConstFold>>(
+fn apply_under<C: Cond<Small, ConstFold> + ReadsNames>(
     alloc: Global,
     graph: &mut EGraph<Small, ConstFold>,
     condition: C,

@@ -7,7 +7,7 @@ use slotted_graph::EGraph;
 use slotted_instances::{lookup_rec_expr, pattern_subst, subst_with, union_instantiations};
 use slotted_patterns::Pattern;
 use slotted_rule_patterns::Subst;
-use slotted_rules::{Always, Cond, Rewrite, RewriteT, apply_rewrites, are_valid};
+use slotted_rules::{Always, Cond, ReadsNames, Rewrite, RewriteT, apply_rewrites, are_valid};
 use slotted_slots::{AppliedId, Error};
 use slotted_small::Small;
 use slotted_terms::expr::RecExpr;
@@ -42,7 +42,7 @@ fn pattern(alloc: Global, graph: &mut EGraph<Small>, text: &str) -> Result<Patte
 }
 
 // Applies the rule of two texts `L ~> R` under a condition.
-fn apply_under<C: Cond<Small, ()>>(
+fn apply_under<C: Cond<Small, ()> + ReadsNames>(
     alloc: Global,
     graph: &mut EGraph<Small>,
     condition: C,
