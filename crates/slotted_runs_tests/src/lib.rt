@@ -12,4 +12,6 @@ mod doubles;
 #[cfg(test)]
 mod limits;
 #[cfg(test)]
+mod notes;
+#[cfg(test)]
 mod turns;
