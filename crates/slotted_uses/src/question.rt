@@ -77,7 +77,6 @@ pub fn judge<L: Printable>(
 ///
 /// A yes follows from what was asserted and from instances of the rules. A no says that the equation does not follow
 /// from the instances that a saturated run made. Other instances of the rules may give more.
-/// run that ended saturated. Other instances of the rules may say more.
 pub fn ask<L: Printable>(
     workspace: &mut Workspace<L>,
     left: &str,
