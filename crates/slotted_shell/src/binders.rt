@@ -38,7 +38,7 @@ fn open_children<'a>(
     open: &mut Vec<Open<'a>>,
 ) -> Result<(), Error> {
     let mut run = Vec::new(alloc);
-    let mut count = 0;
+    let mut count = 0usize;
     for argument in node.arguments() {
         match argument {
             Argument::Slot(slot) => run.push(*slot)?,
@@ -48,7 +48,7 @@ fn open_children<'a>(
                     open.push(Open { pattern, bound })?;
                 }
                 run.clear();
-                count += 1;
+                count = count.saturating_add(1);
             }
         }
     }
