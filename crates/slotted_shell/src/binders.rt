@@ -1,5 +1,6 @@
 //! What binds: in an example of an operator, and around the variables of a rule.
 use slotted_patterns::Pattern;
+use slotted_rule_texts::SlotCondition;
 use slotted_slots::{Error, Slot};
 use slotted_symbols::{Argument, SymbolLang};
 use std::alloc::Global;
@@ -55,6 +56,28 @@ fn open_children<'a>(
     Ok(())
 }
 
+// Notes a variable, or adds the parts of another pattern.
+fn read_open<'a>(
+    alloc: Global,
+    next: Open<'a>,
+    open: &mut Vec<Open<'a>>,
+    found: &mut Vec<Occurrence<'a>>,
+) -> Result<(), Error> {
+    match next.pattern {
+        Pattern::ENode(node, children) => open_children(alloc, node, children, &next.bound, open),
+        Pattern::PVar(name) => {
+            found.push(Occurrence {
+                variable: name.as_str(),
+                bound: next.bound,
+            })?;
+            Ok(())
+        }
+        Pattern::Subst(body, place, value) => {
+            open_replaced(alloc, body, place, value, &next.bound, open)
+        }
+    }
+}
+
 /// Returns the variables of a pattern, each as often as it stands, with the slots that are bound around it. If a part
 /// is replaced in a pattern, the slots of that part count as bound in the pattern.
 pub fn occurrences(
@@ -67,18 +90,10 @@ pub fn occurrences(
         pattern,
         bound: Vec::new(alloc),
     })?;
-    while let Some(next) = open.pop() {
-        match next.pattern {
-            Pattern::ENode(node, children) => {
-                open_children(alloc, node, children, &next.bound, &mut open)?
-            }
-            Pattern::PVar(name) => found.push(Occurrence {
-                variable: name.as_str(),
-                bound: next.bound,
-            })?,
-            Pattern::Subst(body, place, value) => {
-                open_replaced(alloc, body, place, value, &next.bound, &mut open)?
-            }
+    for _ in 0..u64::MAX {
+        match open.pop() {
+            Some(next) => read_open(alloc, next, &mut open, &mut found)?,
+            None => return Ok(found),
         }
     }
     Ok(found)
@@ -119,21 +134,46 @@ fn is_bound_at_each(found: &[Occurrence], variable: &str, slot: Slot) -> bool {
         .all(|o| o.variable != variable || o.bound.iter().any(|b| *b == slot))
 }
 
-/// Returns a variable that stands under a binder on the left side, and somewhere on the right side does not, and the
-/// slot of that binder. What stands for the variable may then have a slot that nothing binds on the right side.
-pub fn lost_binder<'a>(
-    left: &[Occurrence<'a>],
+// Returns whether a condition says that a slot does not occur in what stands for a variable. `slots` are those of the
+// conditions, in order.
+fn is_excluded(conditions: &[SlotCondition], slots: &[Slot], variable: &str, slot: Slot) -> bool {
+    conditions
+        .iter()
+        .zip(slots)
+        .any(|(c, other)| !c.occurs && c.variable == variable && *other == slot)
+}
+
+// Returns the first slot that is bound around an occurrence, and not around each occurrence on the right side, and that
+// no condition excludes.
+fn lost_slot(
+    occurrence: &Occurrence,
     right: &[Occurrence],
-    is_excluded: &[(&str, Slot)],
-) -> Option<(&'a str, Slot)> {
-    for occurrence in left {
-        for slot in &occurrence.bound {
-            let excluded = is_excluded
-                .iter()
-                .any(|(name, other)| *name == occurrence.variable && *other == *slot);
-            if !excluded && !is_bound_at_each(right, occurrence.variable, *slot) {
-                return Some((occurrence.variable, *slot));
-            }
+    conditions: &[SlotCondition],
+    slots: &[Slot],
+) -> Option<Slot> {
+    let variable = occurrence.variable;
+    for slot in &occurrence.bound {
+        if !is_bound_at_each(right, variable, *slot)
+            && !is_excluded(conditions, slots, variable, *slot)
+        {
+            return Some(*slot);
+        }
+    }
+    None
+}
+
+/// Returns which occurrence of a variable on the left side is under a binder that some occurrence on the right side is
+/// not under, and the slot of that binder. What stands for the variable may then have a slot that nothing binds on the
+/// right side.
+pub fn lost_binder(
+    left: &[Occurrence],
+    right: &[Occurrence],
+    conditions: &[SlotCondition],
+    slots: &[Slot],
+) -> Option<(usize, Slot)> {
+    for i in 0..left.len() {
+        if let Some(slot) = lost_slot(&left[i], right, conditions, slots) {
+            return Some((i, slot));
         }
     }
     None

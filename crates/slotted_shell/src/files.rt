@@ -30,8 +30,8 @@ fn push_lines(alloc: Global, text: &str, steps: &mut Vec<Step>) -> Result<()> {
         lines.push(line)?;
     }
     steps.push(Step::Close)?;
-    while let Some(line) = lines.pop() {
-        steps.push(Step::Shown(String::from_str(alloc, line)?))?;
+    for line in lines.iter().rev() {
+        steps.push(Step::Shown(String::from_str(alloc, *line)?))?;
     }
     Ok(())
 }

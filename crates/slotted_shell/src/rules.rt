@@ -3,23 +3,26 @@ use crate::binders::{lost_binder, occurrences};
 use crate::shell::{RuleLine, Shell};
 use crate::trouble::Trouble;
 use slotted_patterns::Pattern;
-use slotted_rule_texts::RuleText;
+use slotted_rule_texts::{RuleText, SlotCondition};
 use slotted_slots::{Error, Show, Slot};
 use slotted_symbols::SymbolLang;
 use std::alloc::Global;
 
 // Returns what is told of a variable that may hold a slot which nothing binds behind the arrow.
 fn told_lost(
-    alloc: Global,
     shell: &Shell,
     left: &Pattern<SymbolLang>,
     right: &Pattern<SymbolLang>,
-    excluded: &[(&str, Slot)],
+    conditions: &[SlotCondition],
+    slots: &[Slot],
 ) -> Result<Option<String>, Error> {
+    let alloc = shell.alloc;
     let around = occurrences(alloc, left)?;
     let behind = occurrences(alloc, right)?;
-    match lost_binder(&around, &behind, excluded) {
-        Some((variable, slot)) => {
+    let lost = lost_binder(&around, &behind, conditions, slots);
+    match lost {
+        Some((i, slot)) => {
+            let variable = around.get(i).map_or("", |o| o.variable);
             let slot = slot.show(shell.workspace.graph().table());
             Ok(Some(format!(in alloc;
                 "?{variable} may have {slot}, which is not bound behind the arrow; ` if {slot} not in ?{variable}` excludes that"
@@ -50,42 +53,45 @@ fn lines_of(alloc: Global, asked: &RuleText, text: &str) -> Result<Vec<RuleLine>
     Ok(lines)
 }
 
-// Returns the slots of the conditions of a rule, with the variables that have to lack them.
-fn excluded<'a>(
-    alloc: Global,
+// Returns the slots of the conditions of a rule, in order, if a side has what they ask for.
+fn slots_on(
     shell: &mut Shell,
-    asked: &RuleText<'a>,
     side: &str,
     pattern: &Pattern<SymbolLang>,
-) -> Result<Vec<(&'a str, Slot)>, Trouble> {
-    let mut found = Vec::new(alloc);
-    for condition in &asked.conditions {
-        let slot = shell.slot_of(side, pattern, condition)?;
-        if !condition.occurs {
-            found.push((condition.variable, slot))?;
-        }
+    conditions: &[SlotCondition],
+) -> Result<Vec<Slot>, Trouble> {
+    let mut slots = Vec::new(shell.alloc);
+    for condition in conditions {
+        slots.push(shell.slot_of(side, pattern, condition)?)?;
     }
-    Ok(found)
+    Ok(slots)
+}
+
+// Tests one direction of a rule. Returns a warning, or `None`.
+fn test_way(
+    shell: &mut Shell,
+    side: &str,
+    left: &Pattern<SymbolLang>,
+    right: &Pattern<SymbolLang>,
+    conditions: &[SlotCondition],
+) -> Result<Option<String>, Trouble> {
+    let slots = slots_on(shell, side, left, conditions)?;
+    match told_lost(shell, left, right, conditions, &slots) {
+        Ok(warning) => Ok(warning),
+        Err(error) => Err(Trouble::of_text(shell.alloc, &error, side)),
+    }
 }
 
 // Tests both sides of a rule, and its conditions. Returns a warning, or `None`.
-fn tested(alloc: Global, shell: &mut Shell, asked: &RuleText) -> Result<Option<String>, Trouble> {
+fn tested(shell: &mut Shell, asked: &RuleText) -> Result<Option<String>, Trouble> {
     let left = shell.checked(asked.left)?;
     let right = shell.checked(asked.right)?;
-    let there = excluded(alloc, shell, asked, "left", &left)?;
-    let told = told_lost(alloc, shell, &left, &right, &there);
-    let warning = match told {
-        Ok(warning) => warning,
-        Err(error) => return Err(Trouble::of_text(alloc, &error, asked.left)),
-    };
-    if !asked.both || warning.is_some() {
+    let warning = test_way(shell, "left", &left, &right, &asked.conditions)?;
+    if !asked.both {
         return Ok(warning);
     }
-    let back = excluded(alloc, shell, asked, "right", &right)?;
-    match told_lost(alloc, shell, &right, &left, &back) {
-        Ok(warning) => Ok(warning),
-        Err(error) => Err(Trouble::of_text(alloc, &error, asked.right)),
-    }
+    let back = test_way(shell, "right", &right, &left, &asked.conditions)?;
+    Ok(warning.or(back))
 }
 
 /// Keeps the rule of a text. Returns `ok`, and a warning if a variable may take a slot out of its scope.
@@ -95,7 +101,7 @@ pub fn keep_rule(shell: &mut Shell, text: &str) -> Result<String, Trouble> {
         Ok(asked) => asked,
         Err(error) => return Err(Trouble::of_rule(alloc, &error)),
     };
-    let warning = tested(alloc, shell, &asked)?;
+    let warning = tested(shell, &asked)?;
     let lines = match lines_of(alloc, &asked, text) {
         Ok(lines) => lines,
         Err(error) => return Err(Trouble::of_text(alloc, &error, text)),
