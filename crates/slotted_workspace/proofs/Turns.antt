@@ -50,4 +50,4 @@ module _ {L : Type 0} (form : L → Form) (rules : List (Rewrite L CondTree)) (g
 
       by : (b : Bool) → g.failed ≡ b → TurnRefused form rules g h e
       by true f = inl (f, stays f, ap (error_or Failed) (failed.1 f))
-      by false well = inr (record { well = well; extends = extends; fails = λ f. short well (fails.0 f); cause = cause well err })
+      by false well = inr (record { well = well; extends = extends; fails = (λ f. short well (fails.0 f), λ s. fails.1 (inr s)); cause = cause well err })

@@ -10,7 +10,7 @@
 --     ExtractsTerm, ExtractRefused      the same of the number of nodes
 --     ReadsPattern, PatternRefused      the pattern of a text, or a refusal
 --     HasMatches, SearchRefused  how many matches the pattern of a text has, or a refusal
---     DrawRefused g h e          a picture, or a list of classes, was refused
+--     Draws g h, DrawRefused g h e      a picture, or a list of classes, was made, or refused
 --     ReadsRule, RuleRefused     a rule of two texts, or a refusal
 --     ChangesGraph s v           from s to v the graph alone changes
 --     AddsTerm, KeepsRule        the same of a workspace, which keeps the term, or the rule
@@ -200,6 +200,7 @@ pub record HasMatches {L : Type 0} (form : L → Form) (read : List Element → 
   pub pattern : Pattern L
   pub between : Graph
   pub reads : ReadsPattern form read g between text pattern
+  pub plain : has_substitution (tree_of form pattern) ≡ false
   pub found : List Values
   pub searched : IsSearched (tree_of form pattern) between found h
   pub count : n ≡ length found
@@ -211,7 +212,11 @@ pub data SearchRefused {L : Type 0} (form : L → Form) (read : List Element →
       ((e ≡ SubstInSearch) × (has_substitution (tree_of form p) ≡ true)) ⊎ IsShortage e → SearchRefused form read g h text e
 
 abbrev pub DrawRefused : Graph → Graph → Error → Type 0
-DrawRefused g h e = HadFailed g h e ⊎ ((g.failed ≡ false) × IsShortage e × (e ≡ OutOfSlots → CanRunOutForDump g h.table))
+DrawRefused g h e = HadFailed g h e ⊎ ((g.failed ≡ false) × OnlyTakesSlots g h × IsShortage e × (e ≡ OutOfSlots → CanRunOutForDump g h.table))
+
+-- fresh slots were made at most, in a graph that has not failed
+abbrev pub Draws : Graph → Graph → Type 0
+Draws g h = (g.failed ≡ false) × OnlyTakesSlots g h
 
 pub record ReadsRule {L : Type 0} (form : L → Form) (read : List Element → Option Form) (g h : Graph) (name left right : List ℕ) (condition : CondTree) (r : Rewrite L CondTree) : Type 0 where
   pub well : g.failed ≡ false

@@ -27,7 +27,7 @@ pub record TakesTurn {L : Type 0} (form : L → Form) (rules : List (Rewrite L C
 pub record IsRefusedTurn {L : Type 0} (form : L → Form) (rules : List (Rewrite L CondTree)) (g h : Graph) (e : Error) : Type 0 where
   pub well : g.failed ≡ false
   pub extends : IsTrue h.failed ⊎ ExtendsTo g h
-  pub fails : IsTrue h.failed → IsShortage e
+  pub fails : IsTrue h.failed ↔ IsShortage e
   pub cause : IsShortage e ⊎ AreRefusedBy (RefusesRule form (λ c s _. TreeRefuses c s)) rules e
 
 abbrev pub TurnRefused : {L : Type 0} → (L → Form) → List (Rewrite L CondTree) → Graph → Graph → Error → Type 0

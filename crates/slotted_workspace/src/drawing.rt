@@ -1,8 +1,7 @@
 //! Pictures of a graph, and its classes as text.
-ghost use Rattle.std.specs.Prelude.{◌≡◌, ◌⊎◌, IfErr, IsTrue};
+ghost use Rattle.std.specs.Prelude.{◌≡◌, ◌⊎◌, IfOk, IfErr, IsTrue};
 ghost use Rattle.slotted_graph.specs.Extension.{ExtendsTo};
-ghost use Rattle.slotted_operations.specs.Graph.{OnlyTakesSlots};
-ghost use Rattle.slotted_workspace.specs.Asked.{DrawRefused};
+ghost use Rattle.slotted_workspace.specs.Asked.{DrawRefused, Draws};
 
 use slotted_explain::EGraph;
 use slotted_languages::Language;
@@ -12,7 +11,7 @@ use std::alloc::Global;
 
 /// Returns a picture of the graph.
 pub(crate) fn drawn<L: Language>(alloc: Global, graph: &mut EGraph<L>) -> Result<String, Error>
-    ensures takes { OnlyTakesSlots graph.old graph.new }
+    ensures ok { IfOk result (λ _. Draws graph.old graph.new) }
     ensures err { IfErr result (DrawRefused graph.old graph.new) }
     ensures extends { IsTrue graph.new.failed ⊎ ExtendsTo graph.old graph.new }
     ensures stays { IsTrue graph.old.failed → graph.new ≡ graph.old }
@@ -24,7 +23,7 @@ pub(crate) fn drawn<L: Language>(alloc: Global, graph: &mut EGraph<L>) -> Result
 
 /// Returns the live classes and their e-nodes as text.
 pub(crate) fn dumped<L: Language>(alloc: Global, graph: &mut EGraph<L>) -> Result<String, Error>
-    ensures takes { OnlyTakesSlots graph.old graph.new }
+    ensures ok { IfOk result (λ _. Draws graph.old graph.new) }
     ensures err { IfErr result (DrawRefused graph.old graph.new) }
     ensures extends { IsTrue graph.new.failed ⊎ ExtendsTo graph.old graph.new }
     ensures stays { IsTrue graph.old.failed → graph.new ≡ graph.old }

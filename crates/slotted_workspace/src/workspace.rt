@@ -1,14 +1,14 @@
 //! The workspace.
-ghost use Rattle.std.specs.Prelude.{◌≡◌, ◌⊎◌, ◌++◌, ◌+◌, ◌-◌, ◌^◌, [], ◌∷◌, None, Some, length, IsOk, IfOk, IfErr, IsTrue, OnOk};
+ghost use Rattle.std.specs.Prelude.{◌≡◌, ◌⊎◌, ◌++◌, ◌+◌, ◌-◌, ◌^◌, [], ◌∷◌, None, Some, length, IsOk, IfOk, IfErr, IsTrue, OnErr, OnOk};
 ghost use Rattle.slotted_operations.specs.Image.{CountsOpen};
 ghost use Rattle.slotted_costs.specs.Costs.{costs_by};
-ghost use Rattle.slotted_operations.specs.Graph.{OnlyReads, OnlyTakesSlots};
+ghost use Rattle.slotted_operations.specs.Graph.{OnlyReads};
 ghost use Rattle.slotted_workspace.specs.Asked.{AddsKept, AddRefused, ChangesGraph, Compares, ExplainsTerms};
 ghost use Rattle.slotted_workspace.specs.Asked.{ExplainRefused, ExtractsTerm, ExtractRefused, HadFailed};
 ghost use Rattle.slotted_workspace.specs.Asked.{OfBoth, OfOne, Refuses, RefusesBoth, RefusesOne, UnitesTerms};
 ghost use Rattle.slotted_slots.specs.Table.{gives, named_of};
 ghost use Rattle.slotted_workspace.specs.Asked.{NamingRefused, UnionRefused, AddsTerm, KeepsRule, RuleRefused};
-ghost use Rattle.slotted_workspace.specs.Asked.{DrawRefused, ExtractsBy, ExtractByRefused};
+ghost use Rattle.slotted_workspace.specs.Asked.{DrawRefused, Draws, ExtractsBy, ExtractByRefused};
 ghost use Rattle.slotted_workspace.specs.Asked.{HasMatches, PatternRefused, ReadsPattern, SearchRefused};
 ghost use Rattle.slotted_workspace.specs.RuleTexts.{KeepsRules, RefusesText};
 ghost use Rattle.slotted_workspace.specs.Runs.{HasRun, OfRules, RunRefused};
@@ -109,6 +109,7 @@ impl<L: Language> Workspace<L> {
     ) -> Result<Self, WorkspaceError>
         ensures empty { IfOk result (λ w. w ≡ empty_space numbers.old) }
         ensures next { OnOk result (numbers.new ≡ numbers.old + 1) }
+        ensures same { OnErr result (numbers.new ≡ numbers.old) }
         ensures err { IfErr result
             (λ e. (e ≡ WorkspaceError.Graph GraphError.OutOfSlots) × (numbers.old ≡ 2 ^ 64 - 1)) }
     {
@@ -287,7 +288,7 @@ impl<L: Language> Workspace<L> {
 
     /// Returns a picture of the graph in the DOT language, as `graph_to_dot` of slotted_pictures draws it.
     pub fn picture(&mut self) -> Result<String, WorkspaceError>
-        ensures rest { OnOk result (ChangesGraph self.old self.new × OnlyTakesSlots self.old.graph self.new.graph) }
+        ensures rest { OnOk result (ChangesGraph self.old self.new × Draws self.old.graph self.new.graph) }
         ensures err { IfErr result (Refuses self.old self.new (DrawRefused self.old.graph self.new.graph)) }
     {
         Ok(drawn(self.alloc, &mut self.graph)?)
@@ -295,7 +296,7 @@ impl<L: Language> Workspace<L> {
 
     /// Returns the live classes and their e-nodes as text, as `dump` of a graph has them.
     pub fn dump(&mut self) -> Result<String, WorkspaceError>
-        ensures rest { OnOk result (ChangesGraph self.old self.new × OnlyTakesSlots self.old.graph self.new.graph) }
+        ensures rest { OnOk result (ChangesGraph self.old self.new × Draws self.old.graph self.new.graph) }
         ensures err { IfErr result (Refuses self.old self.new (DrawRefused self.old.graph self.new.graph)) }
     {
         Ok(dumped(self.alloc, &mut self.graph)?)

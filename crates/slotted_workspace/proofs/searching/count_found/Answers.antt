@@ -1,9 +1,13 @@
-use Rattle.std.proofs.Common.{Ok, inr, refl}
+use Rattle.std.proofs.Common.{Ok, ◌∙◌, inr, map, refl, sym}
+use Rattle.std.proofs.lemmas.List.{length-map}
+use Rattle.slotted_patterns.specs.View.{tree_of}
+use Rattle.slotted_rule_patterns.specs.Values.{values_of}
+use Rattle.slotted_rule_patterns.specs.Variables.{has_substitution}
 use Rattle.slotted_graph.proofs.Extending.{extends-read, extends-takes, extends-then}
 use Rattle.slotted_languages.proofs.HandedOn.{handed_err}
 use Rattle.slotted_commands.proofs.Steps.{sound_graph}
 use Rattle.slotted_workspace.specs.Asked.{ReadsPattern, SearchRefused}
-use Rattle.slotted_workspace.proofs.Searches.{search-refused}
+use Rattle.slotted_workspace.proofs.Searches.{found-plain, search-refused}
 use Rattle.slotted_workspace.proofs.searching.count_found.Goals as goal
 
 pub returns-in_err-pattern-clause-extends : goal.returns-in_err-pattern-clause-extends
@@ -34,3 +38,22 @@ returns-clause-extends g c =
     let k = c.parse_pattern.new.self in
     let h = c.ematch_all.new.graph in
     inr (extends-then c.args.graph.now k h (extends-read c.args.graph.now k c.in_ok-pattern.ensures.reads) (extends-takes k h c.in_ok-found.ensures.takes))
+
+pub returns-clause-ok : goal.returns-clause-ok
+returns-clause-ok g c =
+    let form = g.L.LanguageChildren.form in
+    let p = c.in_ok-pattern.pattern in
+    let k = c.parse_pattern.new.self in
+    let first = c.in_ok-pattern.ensures in
+    let second = c.in_ok-found.ensures in
+    let all = c.in_ok-found.found in
+    let well = sound_graph c.args.graph.now.failed (Ok p) p refl first.failed.1 in
+    record {
+      pattern = p;
+      between = k;
+      reads = record { well = well; answer = first.answer well; known = first.known; only = first.reads };
+      plain = found-plain all k (has_substitution (tree_of form p)) (first.reads.failed ∙ well) second.subst;
+      found = map values_of all.items;
+      searched = second.found;
+      count = c.len.ensures ∙ sym (length-map all.items values_of);
+    }
