@@ -1,0 +1,10 @@
+pub mod Pairs
+pub mod MovedRows
+pub mod Lifted
+pub mod Agreeing
+pub mod OneReading
+pub mod StepLaws
+pub mod Congruence
+pub mod WalkSteps
+pub mod LineSteps
+pub mod MoreLines

@@ -1,0 +1,33 @@
+-- Lines of a proof whose sides are equal by some pairs of terms.
+--     IsTermRow ps          the row is that of a term without payloads
+--     AreEqualRows E l r    the rows are those of two such terms, which are equal by E
+--     EachLine E lines      this holds of both sides of each line
+--     HaveTermRows lines    the left side of each line is such a row
+--     IsConsequence lines e      if this holds of these lines, then it holds of e
+--     AreConsequences n lines    if it holds of the first n of these lines, then it holds of all
+use Rattle.std.specs.Prelude.{◌≡◌, ℕ, List, Contains, take}
+use Rattle.slotted_theory.specs.Nameless.{DTerm}
+use Rattle.slotted_check.specs.declared.pieces.Piece.{Piece}
+use Rattle.slotted_check.specs.declared.steps.Equation.{Equation}
+use Rattle.slotted_check.specs.Rows.{row, IsPlain}
+use Rattle.slotted_check.specs.Following.{RowsFollow}
+
+pub record IsTermRow (ps : List Piece) : Type 0 where
+  pub term : DTerm
+  pub plain : IsPlain term
+  pub is : ps ≡ row term
+
+abbrev pub AreEqualRows : List (DTerm × DTerm) → List Piece → List Piece → Type 0
+AreEqualRows E l r = RowsFollow (λ p. Contains E p) l r
+
+abbrev pub EachLine : List (DTerm × DTerm) → List Equation → Type 0
+EachLine E lines = (e : Equation) → Contains lines e → AreEqualRows E e.left.items e.right.items
+
+abbrev pub HaveTermRows : List Equation → Type 0
+HaveTermRows lines = (e : Equation) → Contains lines e → IsTermRow e.left.items
+
+abbrev pub IsConsequence : List Equation → Equation → Type 0
+IsConsequence lines e = (E : List (DTerm × DTerm)) → EachLine E lines → IsTermRow e.left.items → AreEqualRows E e.left.items e.right.items
+
+abbrev pub AreConsequences : ℕ → List Equation → Type 0
+AreConsequences n lines = (E : List (DTerm × DTerm)) → HaveTermRows lines → EachLine E (take n lines) → EachLine E lines
