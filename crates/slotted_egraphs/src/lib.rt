@@ -9,39 +9,104 @@
 
 pub mod example;
 
-pub use slotted_analyses::{Analysis, Edit};
+pub use slotted_analyses::Analysis;
+pub use slotted_analyses::Edit;
 pub use slotted_classes::RebuildCount;
-pub use slotted_explain::{Check, EGraph, Explanation, LeastTerms, ProgressMeasure, Symmetry};
-pub use slotted_extract::{
-    AstSize, CostFunction, Extractor, ast_size_extract, extract, extract_by,
-};
-pub use slotted_graph::{SubstMethod, make_edit, modify_class, modify_in_rounds, modify_once};
-pub use slotted_instances::{
-    OwnSubst, lookup_rec_expr, pattern_subst, subst_ids, subst_with, union_instantiations,
-};
-pub use slotted_languages::{Bind, Language, LanguageChildren, ReadBack, Symbol, pair};
+pub use slotted_explain::Check;
+pub use slotted_explain::EGraph;
+pub use slotted_explain::Explanation;
+pub use slotted_explain::LeastTerms;
+pub use slotted_explain::ProgressMeasure;
+pub use slotted_explain::Symmetry;
+pub use slotted_extract::AstSize;
+pub use slotted_extract::CostFunction;
+pub use slotted_extract::Extractor;
+pub use slotted_extract::ast_size_extract;
+pub use slotted_extract::extract;
+pub use slotted_extract::extract_by;
+pub use slotted_graph::SubstMethod;
+pub use slotted_graph::make_edit;
+pub use slotted_graph::modify_class;
+pub use slotted_graph::modify_in_rounds;
+pub use slotted_graph::modify_once;
+pub use slotted_instances::OwnSubst;
+pub use slotted_instances::lookup_rec_expr;
+pub use slotted_instances::pattern_subst;
+pub use slotted_instances::subst_ids;
+pub use slotted_instances::subst_with;
+pub use slotted_instances::union_instantiations;
+pub use slotted_languages::Bind;
+pub use slotted_languages::Language;
+pub use slotted_languages::LanguageChildren;
+pub use slotted_languages::ReadBack;
+pub use slotted_languages::Symbol;
+pub use slotted_languages::pair;
 pub use slotted_maps::SmallHashMap;
 pub use slotted_matching::Matches;
 pub use slotted_patterns::Pattern;
-pub use slotted_proofs::{
-    CongruenceProof, Equation, ExplicitProof, Proof, ProofLines, ProofList, ProvenEq, ProvenEqRaw,
-    ReflexivityProof, SymmetryProof, TransitivityProof,
-};
+pub use slotted_proofs::CongruenceProof;
+pub use slotted_proofs::Equation;
+pub use slotted_proofs::ExplicitProof;
+pub use slotted_proofs::Proof;
+pub use slotted_proofs::ProofLines;
+pub use slotted_proofs::ProofList;
+pub use slotted_proofs::ProvenEq;
+pub use slotted_proofs::ProvenEqRaw;
+pub use slotted_proofs::ReflexivityProof;
+pub use slotted_proofs::SymmetryProof;
+pub use slotted_proofs::TransitivityProof;
 pub use slotted_rule_patterns::Subst;
-pub use slotted_rules::{
-    Always, And, Cond, CondTree, Not, Or, ReadsNames, Rewrite, RewriteT, RuleCounts, SlotFreeIn,
-    TurnCounts, and, apply_counted, apply_matches, apply_rewrites, are_valid, ematch_all, not, or,
-    slot_free_in,
-};
-pub use slotted_runs::{
-    Clock, Hook, HookStop, Iteration, IterationData, MachineClock, NoHook, Report, Runner,
-    RunnerLimits, RunnerResult, StopReason, run_counted, run_eqsat,
-};
-pub use slotted_slots::{
-    AppliedId, Error, Id, ParseError, Show, Shown, Slot, SlotMap, SlotTable, SmallHashSet,
-    SyntaxElem, Token,
-};
+pub use slotted_rules::Always;
+pub use slotted_rules::And;
+pub use slotted_rules::Cond;
+pub use slotted_rules::CondTree;
+pub use slotted_rules::Not;
+pub use slotted_rules::Or;
+pub use slotted_rules::ReadsNames;
+pub use slotted_rules::Rewrite;
+pub use slotted_rules::RewriteT;
+pub use slotted_rules::RuleCounts;
+pub use slotted_rules::SlotFreeIn;
+pub use slotted_rules::TurnCounts;
+pub use slotted_rules::and;
+pub use slotted_rules::apply_counted;
+pub use slotted_rules::apply_matches;
+pub use slotted_rules::apply_rewrites;
+pub use slotted_rules::are_valid;
+pub use slotted_rules::ematch_all;
+pub use slotted_rules::not;
+pub use slotted_rules::or;
+pub use slotted_rules::slot_free_in;
+pub use slotted_runs::Clock;
+pub use slotted_runs::Hook;
+pub use slotted_runs::HookStop;
+pub use slotted_runs::Iteration;
+pub use slotted_runs::IterationData;
+pub use slotted_runs::MachineClock;
+pub use slotted_runs::NoHook;
+pub use slotted_runs::Report;
+pub use slotted_runs::Runner;
+pub use slotted_runs::RunnerLimits;
+pub use slotted_runs::RunnerResult;
+pub use slotted_runs::StopReason;
+pub use slotted_runs::run_counted;
+pub use slotted_runs::run_eqsat;
+pub use slotted_slots::AppliedId;
+pub use slotted_slots::Error;
+pub use slotted_slots::Id;
+pub use slotted_slots::ParseError;
+pub use slotted_slots::Show;
+pub use slotted_slots::Shown;
+pub use slotted_slots::Slot;
+pub use slotted_slots::SlotMap;
+pub use slotted_slots::SlotTable;
+pub use slotted_slots::SmallHashSet;
+pub use slotted_slots::SyntaxElem;
+pub use slotted_slots::Token;
 pub use slotted_small::Small;
-pub use slotted_symbols::{Argument, SymbolLang};
+pub use slotted_symbols::Argument;
+pub use slotted_symbols::SymbolLang;
+pub use slotted_terms::RecExpr;
 pub use slotted_terms::expr::printing::Printable;
-pub use slotted_terms::{RecExpr, pattern_to_re, re_to_pattern};
+pub use slotted_terms::pattern_to_re;
+pub use slotted_terms::re_to_pattern;

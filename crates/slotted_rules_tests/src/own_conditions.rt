@@ -3,8 +3,8 @@
 use slotted_analyses::Analysis;
 use slotted_graph::EGraph;
 use slotted_languages::Language;
-use slotted_rule_patterns::Subst;
 use slotted_patterns::Pattern;
+use slotted_rule_patterns::Subst;
 use slotted_rules::{Cond, ReadsNames};
 use slotted_slots::Error;
 use std::alloc::Global;

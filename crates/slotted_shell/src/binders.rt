@@ -129,18 +129,15 @@ fn open_replaced<'a>(
 
 // Returns whether a slot is bound around each occurrence of a variable.
 fn is_bound_at_each(found: &[Occurrence], variable: &str, slot: Slot) -> bool {
-    found
-        .iter()
-        .all(|o| o.variable != variable || o.bound.iter().any(|b| *b == slot))
+    found.iter().all(|o| o.variable != variable || o.bound.iter().any(|b| *b == slot))
 }
 
 // Returns whether a condition says that a slot does not occur in what stands for a variable. `slots` are those of the
 // conditions, in order.
 fn is_excluded(conditions: &[SlotCondition], slots: &[Slot], variable: &str, slot: Slot) -> bool {
-    conditions
-        .iter()
-        .zip(slots)
-        .any(|(c, other)| !c.occurs && c.variable == variable && *other == slot)
+    conditions.iter().zip(slots).any(|(c, other)| !c.occurs
+        && c.variable == variable
+        && *other == slot)
 }
 
 // Returns the first slot that is bound around an occurrence, and not around each occurrence on the right side, and that

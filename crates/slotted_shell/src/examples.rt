@@ -10,7 +10,11 @@ pub fn told_binders(alloc: Global, example: &str) -> Result<String, AllocError> 
     let mut told = String::new(alloc);
     let mut run = String::new(alloc);
     let mut many = false;
-    for word in example.split(is_separator).filter(|w| !w.is_empty()).skip(1) {
+    for word in example
+        .split(is_separator)
+        .filter(|w| !w.is_empty())
+        .skip(1)
+    {
         if word.starts_with('$') {
             many = !run.is_empty();
             run.push_str(if many { " and " } else { "" })?;
@@ -18,7 +22,11 @@ pub fn told_binders(alloc: Global, example: &str) -> Result<String, AllocError> 
         } else if !run.is_empty() {
             told.push_str(if told.is_empty() { "" } else { ", " })?;
             told.push_str(run.as_str())?;
-            told.push_str(if many { " are bound in " } else { " is bound in " })?;
+            told.push_str(if many {
+                " are bound in "
+            } else {
+                " is bound in "
+            })?;
             told.push_str(word)?;
             run.clear();
             many = false;

@@ -2,7 +2,8 @@
 use crate::trouble::Trouble;
 use std::alloc::Global;
 
-const ALL: &str = "op TERM                  declares an operator by an example, as `op (sum n $i body)`; then others are refused
+const ALL: &str =
+    "op TERM                  declares an operator by an example, as `op (sum n $i body)`; then others are refused
 rule NAME: L => R        keeps a rule; `<=>` keeps both directions; ` if $x not in ?v and $y in ?w` may follow
 add T                    adds a term
 union T == U             asserts an equation; ` because NAME` may follow
@@ -24,17 +25,23 @@ help WORD                an example";
 // Returns an example of a command.
 fn example(word: &str) -> Option<&'static str> {
     match word {
-        "op" => Some("op (sum n $i body)
+        "op" => Some(
+            "op (sum n $i body)
   slots in front of a child bind in that child alone: here $i is bound in body, and not in n
   slots behind the last child are free: write (at a $i), and not (at $i a)
-  op (row ..) takes any number of children"),
-        "rule" => Some("rule eta: (lam $x (app ?f (var $x))) => ?f if $x not in ?f
+  op (row ..) takes any number of children",
+        ),
+        "rule" => Some(
+            "rule eta: (lam $x (app ?f (var $x))) => ?f if $x not in ?f
   $x not in ?f: the slot $x does not occur in what stands for ?f
 rule assoc: (add ?a (add ?b ?c)) <=> (add (add ?a ?b) ?c)
-rule beta: (app (lam $x ?b) ?t) => ?b[(var $x) := ?t]"),
+rule beta: (app (lam $x ?b) ?t) => ?b[(var $x) := ?t]",
+        ),
         "union" => Some("union (f a) == b because assumption"),
-        "run" => Some("run 10 nodes 5000
-  one line a turn: e-nodes, classes, unions, and for each rule how many matches were united of those found"),
+        "run" => Some(
+            "run 10 nodes 5000
+  one line a turn: e-nodes, classes, unions, and for each rule how many matches were united of those found",
+        ),
         "cost" => Some("cost map 100"),
         "check" => Some("check (add a b) == (add b a)"),
         _ => None,

@@ -78,7 +78,9 @@ impl Shell {
         Ok(match misuse.fault {
             Fault::Unknown => self.told_unknown(text, word.as_str(), column)?,
             Fault::Arguments => {
-                format!(in alloc; "`{word}` at {column} of {text} takes other arguments: {examples}")?
+                format!(in alloc;
+                    "`{word}` at {column} of {text} takes other arguments: {examples}"
+                )?
             }
             Fault::Alone => {
                 format!(in alloc; "`{word}` at {column} of {text} lacks its arguments: {examples}")?
@@ -194,8 +196,5 @@ fn no_example(alloc: Global) -> Result<Trouble, Trouble> {
 }
 
 fn no_equation(alloc: Global) -> Result<Trouble, Trouble> {
-    Ok(Trouble::form(String::from_str(
-        alloc,
-        "two terms with ` == ` between them are wanted",
-    )?))
+    Ok(Trouble::form(String::from_str(alloc, "two terms with ` == ` between them are wanted")?))
 }

@@ -3,8 +3,8 @@
 //! Terms are named by handles. A handle that does not belong to the workspace is refused, so no call has a condition.
 #![tactic(auto)]
 
-pub mod error;
 pub(crate) mod drawing;
+pub mod error;
 pub(crate) mod explaining;
 pub(crate) mod extracting;
 pub mod handle;

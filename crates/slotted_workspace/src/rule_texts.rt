@@ -103,7 +103,14 @@ fn read_back<L: Language>(
 {
     let mut name = String::from_str(alloc, asked.name)?;
     name.push('<')?;
-    read_conditional(alloc, graph, name.as_str(), asked.right, asked.left, &asked.conditions)
+    read_conditional(
+        alloc,
+        graph,
+        name.as_str(),
+        asked.right,
+        asked.left,
+        &asked.conditions,
+    )
 }
 
 // Returns the rules that a rule's text asks for.

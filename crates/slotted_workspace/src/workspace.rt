@@ -15,9 +15,9 @@ ghost use Rattle.slotted_workspace.specs.Runs.{HasRun, OfRules, RunRefused};
 ghost use Rattle.slotted_workspace.specs.Spaces.{empty_space, term_at};
 ghost use Rattle.slotted_workspace.specs.Turns.{TakesTurn, TurnRefused};
 
+use crate::drawing::{drawn, dumped};
 use crate::error::WorkspaceError;
 use crate::explaining::explanation;
-use crate::drawing::{dumped, drawn};
 use crate::extracting::{Extracted, cheapest};
 use crate::handle::Handle;
 use crate::kept::{Kept, both_at, kept_at};
@@ -34,8 +34,7 @@ use slotted_languages::Language;
 use slotted_patterns::Pattern;
 use slotted_rules::{CondTree, Rewrite, TurnCounts};
 use slotted_runs::Report;
-use slotted_slots::Error as GraphError;
-use slotted_slots::{Slot, SlotTable};
+use slotted_slots::{Error as GraphError, Slot, SlotTable};
 use slotted_terms::expr::RecExpr;
 use slotted_terms::expr::printing::Printable;
 use std::alloc::Global;
@@ -103,10 +102,7 @@ impl<L: Language> Workspace<L> {
 
     /// Returns a workspace with the next number of a source, which tells its handles from those of every other workspace
     /// of that source.
-    pub fn numbered(
-        alloc: Global,
-        numbers: &mut WorkspaceNumbers,
-    ) -> Result<Self, WorkspaceError>
+    pub fn numbered(alloc: Global, numbers: &mut WorkspaceNumbers) -> Result<Self, WorkspaceError>
         ensures empty { IfOk result (λ w. w ≡ empty_space numbers.old) }
         ensures next { OnOk result (numbers.new ≡ numbers.old + 1) }
         ensures same { OnErr result (numbers.new ≡ numbers.old) }

@@ -25,8 +25,7 @@ pub returns-clause-ok : goal.returns-clause-ok
 returns-clause-ok g c =
     let form = g.L.LanguageChildren.form in
     let rules = c.deref.result.now in
-    let view = c.self.view_is in
-    (
+    let view = c.self.view_is in (
       rules,
       ap (map (rule_of form)) c.deref.ensures.value ∙ (λ i. (view i).rules),
       subst (λ (x : Space). TakesTurn form rules x.graph c.take_turn.new.graph c.in_ok-take_turn.field-0) view c.in_ok-take_turn.ensures.ok,
