@@ -21,6 +21,17 @@ walks-map h (part {a = a} {b = b} p w) = part (h a b p) (walks-map h w)
 RowsFollow-along : {allowed : DTerm × DTerm → Type 0} {l r l' r' : List Piece} → l ≡ l' → r ≡ r' → RowsFollow allowed l' r' → RowsFollow allowed l r
 RowsFollow-along {allowed} p q h = subst (λ u. u) (λ i. RowsFollow allowed (sym p i) (sym q i)) h
 
+pub line-says : (lines : List Equation) (e : Equation) {l r l' r' : List Piece} → Contains lines e → l' ≡ l → r' ≡ r → SaysAs e.left.items e.right.items l' r' →
+    SaysLine lines l r
+line-says lines e c p q s = record {
+  line = e;
+  among = c;
+  says = record { names = s.names; injective = s.injective; left = s.left ∙ p; right = s.right ∙ q };
+}
+
+pub by-renaming : (E : List (DTerm × DTerm)) (given : List Equation) (l r : List Piece) → EachLine E given → SaysLine given l r → AreEqualRows E l r
+by-renaming E given l r h s = says-follows s.says (h s.line s.among)
+
 pub by-reflexivity : (E : List (DTerm × DTerm)) (l r : List Piece) → IsTermRow l → l ≡ r → AreEqualRows E l r
 by-reflexivity E l r w e = reflexive-follows w.term w.plain w.is e
 

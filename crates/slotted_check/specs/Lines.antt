@@ -3,9 +3,10 @@
 --     AreEqualRows E l r    the rows are those of two such terms, which are equal by E
 --     EachLine E lines      this holds of both sides of each line
 --     HaveTermRows lines    the left side of each line is such a row
---     IsConsequence lines e      if this holds of these lines, then it holds of e
---     AreConsequences n lines    if it holds of the first n of these lines, then it holds of all
-use Rattle.std.specs.Prelude.{◌≡◌, ℕ, List, Contains, take}
+--     IsConsequence given lines e      if this holds of the given equations and of the lines, then it holds of e
+--     AreConsequences given lines      if it holds of the given equations, then it holds of each line
+--     IsProvedClaim given lines e      if it holds of the given equations, then it holds of e
+use Rattle.std.specs.Prelude.{◌≡◌, List, Contains}
 use Rattle.slotted_theory.specs.Nameless.{DTerm}
 use Rattle.slotted_check.specs.declared.pieces.Piece.{Piece}
 use Rattle.slotted_check.specs.declared.steps.Equation.{Equation}
@@ -26,8 +27,12 @@ EachLine E lines = (e : Equation) → Contains lines e → AreEqualRows E e.left
 abbrev pub HaveTermRows : List Equation → Type 0
 HaveTermRows lines = (e : Equation) → Contains lines e → IsTermRow e.left.items
 
-abbrev pub IsConsequence : List Equation → Equation → Type 0
-IsConsequence lines e = (E : List (DTerm × DTerm)) → EachLine E lines → IsTermRow e.left.items → AreEqualRows E e.left.items e.right.items
+abbrev pub IsConsequence : List Equation → List Equation → Equation → Type 0
+IsConsequence given lines e = (E : List (DTerm × DTerm)) → EachLine E given → EachLine E lines → IsTermRow e.left.items
+    → AreEqualRows E e.left.items e.right.items
 
-abbrev pub AreConsequences : ℕ → List Equation → Type 0
-AreConsequences n lines = (E : List (DTerm × DTerm)) → HaveTermRows lines → EachLine E (take n lines) → EachLine E lines
+abbrev pub AreConsequences : List Equation → List Equation → Type 0
+AreConsequences given lines = (E : List (DTerm × DTerm)) → HaveTermRows lines → EachLine E given → EachLine E lines
+
+abbrev pub IsProvedClaim : List Equation → List Equation → Equation → Type 0
+IsProvedClaim given lines e = (E : List (DTerm × DTerm)) → HaveTermRows lines → EachLine E given → AreEqualRows E e.left.items e.right.items

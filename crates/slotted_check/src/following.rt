@@ -1,32 +1,70 @@
-//! Steps as they are written, over the lines before.
-ghost use Rattle.std.specs.Prelude.{◌≡◌, ◌+◌, List, Some, slice_get, take, IfOk, IfSome, IsTrue};
+//! Steps as they are written, over the lines before, and whole proofs.
+ghost use Rattle.std.specs.Prelude.{◌≡◌, ◌≤◌, ◌+◌, List, Some, None, length, slice_get, take, IfOk, IfSome, IsTrue};
 ghost use Rattle.slotted_theory.specs.Nameless.{DTerm};
-ghost use Rattle.slotted_check.specs.Lines.{AreConsequences, EachLine, HaveTermRows, IsConsequence};
+ghost use Rattle.slotted_check.specs.declared.following.Judgement.TheVariants.{Checked};
+ghost use Rattle.slotted_check.specs.Lines.{AreConsequences, EachLine, HaveTermRows, IsConsequence, IsProvedClaim};
+ghost use Rattle.slotted_check.specs.Parts.{SaysLine};
 
-use crate::steps::{Equation, is_congruent, is_reflexive, is_symmetric, is_transitive, line_at};
+use crate::steps::{
+    Equation, is_congruent, is_reflexive, is_symmetric, is_transitive, line_at, says,
+};
 use std::alloc::{AllocError, Global};
 
-/// How a line follows from lines before it.
+/// How a line follows. All numbers but that of a given equation are those of earlier lines.
 #[derive(Drop)]
 pub enum Step {
+    /// It is the given equation with this number, renamed.
+    Given(usize),
+    /// Both sides are one term.
     Reflexivity,
+    /// It is this line, turned round.
     Symmetry(usize),
+    /// It is one line behind another, by some middle term.
     Transitivity(usize, usize),
+    /// It is one operator over the sides of these lines.
     Congruence(Vec<usize>),
 }
 
-/// Returns whether an equation follows by a step from the lines before it.
-///
-/// If it does, and both sides of each of these lines are equal by some pairs of terms, then so are both of its sides.
-pub fn step_follows(
+/// What is said of a proof and its claim.
+#[derive(Clone, Copy, PartialEq, Eq)]
+pub enum Judgement {
+    /// Each line follows, and the last one says the claim.
+    Checked,
+    /// The line with this number does not follow.
+    Fails(usize),
+    /// Each line follows, and the last one does not say the claim, or there is none.
+    OtherClaim,
+}
+
+// Returns whether an equation is the line with a number, renamed.
+fn is_renamed(
     alloc: Global,
     goal: &Equation,
     lines: &[Equation],
+    number: usize,
+) -> Result<bool, AllocError>
+    ensures { IfOk result (λ b. IsTrue b → SaysLine lines.now goal.now.left.items goal.now.right.items) }
+{
+    match line_at(lines, number) {
+        Some(line) => says(alloc, line, &goal.left, &goal.right),
+        None => Ok(false),
+    }
+}
+
+/// Returns whether an equation follows by a step from given equations and the lines before it.
+///
+/// If it does, and both sides of each of these are equal by some pairs of terms, then so are both of its sides.
+pub fn step_follows(
+    alloc: Global,
+    goal: &Equation,
+    given: &[Equation],
+    lines: &[Equation],
     step: &Step,
 ) -> Result<bool, AllocError>
-    ensures { IfOk result (λ b. IsTrue b → IsConsequence lines.now goal.now) }
+    ensures { IfOk result (λ b. IsTrue b → IsConsequence given.now lines.now goal.now) }
 {
     match step {
+        Step::Given(k) => is_renamed(alloc, goal, given, *k),
         Step::Reflexivity => Ok(is_reflexive(goal)),
         Step::Symmetry(p) => match line_at(lines, *p) {
             Some(part) => is_symmetric(alloc, goal, part),
@@ -50,14 +88,15 @@ fn equation_at<'a>(lines: &'a [Equation], place: usize) -> Option<&'a Equation>
     None
 }
 
-// Returns whether the line at a place follows by a step from the lines before it.
+// Returns whether the line at a place follows by a step from given equations and the lines before it.
 fn line_follows(
     alloc: Global,
+    given: &[Equation],
     lines: &[Equation],
     place: usize,
     step: &Step,
 ) -> Result<bool, AllocError>
-    ensures { IfOk result (λ b. IsTrue b → (E : List (DTerm × DTerm)) → HaveTermRows lines.now
+    ensures { IfOk result (λ b. IsTrue b → (E : List (DTerm × DTerm)) → HaveTermRows lines.now → EachLine E given.now
         → EachLine E (take place lines.now) → EachLine E (take (place + 1) lines.now)) }
 {
     if place >= lines.len() {
@@ -66,31 +105,66 @@ fn line_follows(
     match equation_at(lines, place) {
         Some(goal) => {
             let (before, _) = lines.split_at(place);
-            step_follows(alloc, goal, before, step)
+            step_follows(alloc, goal, given, before, step)
         }
         None => Ok(false),
     }
 }
 
-/// Returns whether each line past the first ones, which are `given`, follows by its step from the lines before it.
+/// Returns the number of a line that does not follow by its step from given equations and the lines before it. There
+/// is none if each line follows.
 ///
-/// If so, and both sides of each given line are equal by some pairs of terms, then so are both sides of every line.
-pub fn lines_follow(
+/// If each does, and both sides of each given equation are equal by some pairs of terms, then so are both sides of each
+/// line. A line past the steps does not follow.
+pub fn first_fault(
     alloc: Global,
+    given: &[Equation],
     lines: &[Equation],
-    given: usize,
     steps: &[Step],
-) -> Result<bool, AllocError>
-    ensures { IfOk result (λ b. IsTrue b → AreConsequences given lines.now) }
+) -> Result<Option<usize>, AllocError>
+    ensures none { IfOk result (λ o. (o ≡ None) → AreConsequences given.now lines.now) }
+    ensures some { IfOk result (λ o. IfSome o (λ n. n ≤ length lines.now)) }
 {
-    let mut place = given;
+    let mut place = 0;
     let mut left = steps;
     while place < lines.len() {
-        if left.is_empty() || !line_follows(alloc, lines, place, &left[0])? {
-            return Ok(false);
+        if left.is_empty() || !line_follows(alloc, given, lines, place, &left[0])? {
+            return Ok(Some(place));
         }
         place += 1;
         left = &left[1..];
     }
-    Ok(left.is_empty())
+    Ok(None)
+}
+
+// Returns whether the last line is a claim, renamed.
+fn ends_in(alloc: Global, lines: &[Equation], claim: &Equation) -> Result<bool, AllocError>
+    ensures { IfOk result (λ b. IsTrue b → SaysLine lines.now claim.now.left.items claim.now.right.items) }
+{
+    match lines.len().checked_sub(1) {
+        Some(last) => is_renamed(alloc, claim, lines, last),
+        None => Ok(false),
+    }
+}
+
+/// Judges the proof of a claim from given equations.
+///
+/// If it is checked, and both sides of each given equation are equal by some pairs of terms, then so are both sides of
+/// the claim.
+pub fn judge_proof(
+    alloc: Global,
+    given: &[Equation],
+    lines: &[Equation],
+    steps: &[Step],
+    claim: &Equation,
+) -> Result<Judgement, AllocError>
+    ensures checked { IfOk result (λ j. (j ≡ Checked) → IsProvedClaim given.now lines.now claim.now) }
+{
+    if let Some(place) = first_fault(alloc, given, lines, steps)? {
+        return Ok(Judgement::Fails(place));
+    }
+    if ends_in(alloc, lines, claim)? {
+        return Ok(Judgement::Checked);
+    }
+    Ok(Judgement::OtherClaim)
 }

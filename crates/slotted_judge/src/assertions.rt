@@ -48,6 +48,13 @@ fn key_of(equation: &Equation) -> u64 {
     skeleton(&equation.right, skeleton(&equation.left, 0))
 }
 
+// Returns a copy of an equation.
+fn copy_of(equation: &Equation) -> Result<Equation, AllocError> {
+    let left = equation.left.clone()?;
+    let right = equation.right.clone()?;
+    Ok(Equation { left, right })
+}
+
 impl Assertions {
     /// Returns no assertions.
     pub fn new(alloc: Global) -> Self {
@@ -72,20 +79,25 @@ impl Assertions {
         Ok(())
     }
 
-    /// Returns whether an equation was asserted with a reason, up to a renaming.
-    pub fn have(&self, alloc: Global, goal: &Equation, reason: &str) -> Result<bool, AllocError> {
+    /// Returns the assertion with a reason that an equation is, up to a renaming.
+    pub fn find(
+        &self,
+        alloc: Global,
+        goal: &Equation,
+        reason: &str,
+    ) -> Result<Option<Equation>, AllocError> {
         let Some(places) = self.index.get(&key_of(goal)) else {
-            return Ok(false);
+            return Ok(None);
         };
         for place in places {
             if let Some(assertion) = self.assertions.get(*place)
                 && assertion.reason.as_str() == reason
                 && says(alloc, &assertion.equation, &goal.left, &goal.right)?
             {
-                return Ok(true);
+                return Ok(Some(copy_of(&assertion.equation)?));
             }
         }
-        Ok(false)
+        Ok(None)
     }
 }
 
@@ -108,55 +120,63 @@ impl Rule {
         true
     }
 
-    // Returns whether an equation is an instance of one pattern and another, up to a renaming.
-    fn leads(
+    // Returns the instance of two patterns that an equation is, up to a renaming.
+    fn lead(
         &self,
         alloc: Global,
         from: &[Code],
         to: &[Code],
         goal: &Equation,
-    ) -> Result<bool, AllocError> {
+    ) -> Result<Option<Equation>, AllocError> {
         let values = guess(alloc, from, &goal.left, self.slots, self.variables)?;
         if !self.are_met(&values) {
-            return Ok(false);
+            return Ok(None);
         }
         let Some(left) = instance(alloc, from, &values)? else {
-            return Ok(false);
+            return Ok(None);
         };
         let Some(right) = instance(alloc, to, &values)? else {
-            return Ok(false);
+            return Ok(None);
         };
-        says(alloc, &Equation { left, right }, &goal.left, &goal.right)
+        let equation = Equation { left, right };
+        let is_it = says(alloc, &equation, &goal.left, &goal.right)?;
+        Ok(if is_it { Some(equation) } else { None })
     }
 
-    /// Returns whether an equation is an instance of the rule with this reason, up to a renaming.
-    pub fn gives(&self, alloc: Global, goal: &Equation, reason: &str) -> Result<bool, AllocError> {
-        if self.reason.as_str() == reason && self.leads(alloc, &self.left, &self.right, goal)? {
-            return Ok(true);
+    // Returns the instance of the rule with a reason that an equation is, up to a renaming.
+    fn instance(
+        &self,
+        alloc: Global,
+        goal: &Equation,
+        reason: &str,
+    ) -> Result<Option<Equation>, AllocError> {
+        if self.reason.as_str() == reason {
+            let equation = self.lead(alloc, &self.left, &self.right, goal)?;
+            if equation.is_some() {
+                return Ok(equation);
+            }
         }
         match &self.reason_back {
-            Some(back) if back.as_str() == reason => self.leads(
-                alloc,
-                &self.right,
-                &self.left,
-                goal,
-            ),
-            _ => Ok(false),
+            Some(back) if back.as_str() == reason => {
+                self.lead(alloc, &self.right, &self.left, goal)
+            }
+            _ => Ok(None),
         }
     }
 }
 
-/// Returns whether an equation is an instance of one of the rules with this reason.
-pub fn rules_give(
+/// Returns the instance of one of the rules with a reason that an equation is, up to a renaming.
+pub fn find_instance(
     alloc: Global,
     rules: &[Rule],
     goal: &Equation,
     reason: &str,
-) -> Result<bool, AllocError> {
+) -> Result<Option<Equation>, AllocError> {
     for rule in rules {
-        if rule.gives(alloc, goal, reason)? {
-            return Ok(true);
+        let equation = rule.instance(alloc, goal, reason)?;
+        if equation.is_some() {
+            return Ok(equation);
         }
     }
-    Ok(false)
+    Ok(None)
 }

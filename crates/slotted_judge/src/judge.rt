@@ -1,12 +1,12 @@
 //! A judge of certificates: assertions, rules, claims, and the lines of their proofs.
-use crate::assertions::{Assertion, Assertions, Rule, rules_give};
+use crate::assertions::{Assertion, Assertions, Rule, find_instance};
 use crate::lines::{read_equation, read_rule, reason_of, whole_equation};
 use crate::reader::Reader;
 use crate::reading::Operators;
 use crate::reasons::step_of;
 use crate::words::Words;
-use slotted_check::following::step_follows;
-use slotted_check::steps::{Equation, says};
+use slotted_check::following::{Judgement, Step, judge_proof};
+use slotted_check::steps::Equation;
 use std::alloc::{AllocError, Global};
 
 /// The line of a proof that fails, by its place, and why.
@@ -24,12 +24,20 @@ pub struct Verdict {
     pub fault: Option<Fault>,
 }
 
-// A claim, the lines of its proof so far, and the first of them that fails.
+// The lines of a proof with their steps, and the assertions and instances of rules that they stand on.
+#[derive(Drop)]
+struct Proof {
+    given: Vec<Equation>,
+    lines: Vec<Equation>,
+    steps: Vec<Step>,
+}
+
+// A claim, its proof up to the first line that cannot be read, and that line.
 #[derive(Drop)]
 struct Claim {
     text: String,
     equation: Equation,
-    lines: Vec<Equation>,
+    proof: Proof,
     fault: Option<Fault>,
 }
 
@@ -55,6 +63,21 @@ fn numbered_line<'a>(line: &'a str) -> Option<(usize, &'a str)> {
     }
 }
 
+// Returns the first fault of a proof, of which a line past the judged ones may be at fault.
+fn first_fault(judgement: Judgement, count: usize, unread: Option<Fault>) -> Option<Fault> {
+    if let Judgement::Fails(line) = judgement {
+        let why = "it does not follow from the lines that it names";
+        return Some(Fault { line, why });
+    }
+    if unread.is_some() || judgement == Judgement::Checked {
+        return unread;
+    }
+    Some(Fault {
+        line: count.saturating_sub(1),
+        why: "it says something else than the claim",
+    })
+}
+
 impl Judge {
     /// Returns a judge who has read nothing.
     pub fn new(alloc: Global) -> Self {
@@ -71,34 +94,34 @@ impl Judge {
         }
     }
 
-    // Returns why an equation does not follow by a reason from the lines before it, if it does not.
-    fn fault_of(
-        &self,
-        lines: &[Equation],
-        goal: &Equation,
-        reason: &str,
-    ) -> Result<Option<&'static str>, AllocError> {
-        let alloc = self.alloc;
-        if reason == "None" || reason.starts_with("Some(") {
-            let is_given = self.assertions.have(alloc, goal, reason)?
-                || rules_give(alloc, &self.rules, goal, reason)?;
-            return Ok(if is_given {
-                None
-            } else {
-                Some("it was not asserted, and is no instance of a rule of that name")
-            });
+    // Returns the assertion or the instance of a rule with a reason that an equation is.
+    fn given(&self, goal: &Equation, reason: &str) -> Result<Option<Equation>, AllocError> {
+        let asserted = self.assertions.find(self.alloc, goal, reason)?;
+        if asserted.is_some() {
+            return Ok(asserted);
         }
-        match step_of(alloc, reason)? {
-            Some(step) if step_follows(alloc, goal, lines, &step)? => Ok(None),
-            Some(_) => Ok(Some("it does not follow from the lines that it names")),
-            None => Ok(Some("there is no such step")),
-        }
+        find_instance(self.alloc, &self.rules, goal, reason)
     }
 
-    // Reads a line of a proof, and returns why it fails, if it does.
-    fn check(
+    // Returns the step of an equation that is given, which is added.
+    fn given_step(
+        &self,
+        given: &mut Vec<Equation>,
+        goal: &Equation,
+        reason: &str,
+    ) -> Result<Option<Step>, AllocError> {
+        let Some(equation) = self.given(goal, reason)? else {
+            return Ok(None);
+        };
+        let place = given.len();
+        given.push(equation)?;
+        Ok(Some(Step::Given(place)))
+    }
+
+    // Reads a line of a proof, and returns why it is none, if so.
+    fn read_line(
         &mut self,
-        lines: &mut Vec<Equation>,
+        proof: &mut Proof,
         number: usize,
         text: &str,
     ) -> Result<Option<&'static str>, AllocError> {
@@ -106,15 +129,26 @@ impl Judge {
         let Some(goal) = read_equation(self.alloc, &mut reader, &mut self.operators, "=")? else {
             return Ok(Some("a side is no term"));
         };
-        if number != lines.len() {
+        if number != proof.lines.len() {
             return Ok(Some("its number is not the next one"));
         }
         if !reader.take("by ") {
             return Ok(Some("it has no reason"));
         }
-        let fault = self.fault_of(lines, &goal, reader.rest())?;
-        lines.push(goal)?;
-        Ok(fault)
+        let reason = reader.rest();
+        if reason == "None" || reason.starts_with("Some(") {
+            let Some(step) = self.given_step(&mut proof.given, &goal, reason)? else {
+                return Ok(Some("it was not asserted, and is no instance of a rule of that name"));
+            };
+            proof.steps.push(step)?;
+        } else {
+            let Some(step) = step_of(self.alloc, reason)? else {
+                return Ok(Some("there is no such step"));
+            };
+            proof.steps.push(step)?;
+        }
+        proof.lines.push(goal)?;
+        Ok(None)
     }
 
     // Takes a line of the proof of the claim.
@@ -123,8 +157,8 @@ impl Judge {
             return Ok(());
         };
         if claim.fault.is_none() {
-            let line = claim.lines.len();
-            if let Some(why) = self.check(&mut claim.lines, number, text)? {
+            let line = claim.proof.lines.len();
+            if let Some(why) = self.read_line(&mut claim.proof, number, text)? {
                 claim.fault = Some(Fault { line, why });
             }
         }
@@ -140,28 +174,22 @@ impl Judge {
         let Claim {
             text,
             equation,
-            lines,
+            proof,
             fault,
         } = claim;
-        if fault.is_some() {
-            return Ok(Some(Verdict { claim: text, fault }));
-        }
-        let Some(last) = lines.last() else {
+        if proof.lines.is_empty() && fault.is_none() {
             return Ok(None);
-        };
-        if says(self.alloc, last, &equation.left, &equation.right)? {
-            return Ok(Some(Verdict {
-                claim: text,
-                fault: None,
-            }));
         }
-        let fault = Fault {
-            line: lines.len().saturating_sub(1),
-            why: "it says something else than the claim",
-        };
+        let judgement = judge_proof(
+            self.alloc,
+            &proof.given,
+            &proof.lines,
+            &proof.steps,
+            &equation,
+        )?;
         Ok(Some(Verdict {
             claim: text,
-            fault: Some(fault),
+            fault: first_fault(judgement, proof.lines.len(), fault),
         }))
     }
 
@@ -204,18 +232,21 @@ impl Judge {
 
     fn begin_claim(&mut self, text: &str, sign: &str) -> Result<(), AllocError> {
         let alloc = self.alloc;
-        match whole_equation(alloc, text, &mut self.operators, sign)? {
-            Some(equation) => {
-                let text = String::from_str(alloc, text)?;
-                self.claim = Some(Claim {
-                    text,
-                    equation,
-                    lines: Vec::new(alloc),
-                    fault: None,
-                });
-            }
-            None => self.count_unread(),
-        }
+        let Some(equation) = whole_equation(alloc, text, &mut self.operators, sign)? else {
+            self.count_unread();
+            return Ok(());
+        };
+        let proof = Proof {
+            given: Vec::new(alloc),
+            lines: Vec::new(alloc),
+            steps: Vec::new(alloc),
+        };
+        self.claim = Some(Claim {
+            text: String::from_str(alloc, text)?,
+            equation,
+            proof,
+            fault: None,
+        });
         Ok(())
     }
 

@@ -6,8 +6,9 @@ use Rattle.slotted_check.proofs.following.line_follows.Goals as goal
 
 pub returns-in-Some : goal.returns-in-Some
 returns-in-Some c =
-    let g = rw c.in-Some.is at c.equation_at.ensures in
+    let found = rw c.in-Some.is at c.equation_at.ensures in
     let lt : c.args.place < length c.args.lines.now = omega arith in
-    ok-map c.step_follows.result (λ b s t E w h.
-    line-more E c.args.lines.now c.args.place c.in-Some.goal.now lt g h
-    (s t E (subst (EachLine E) (sym c.split_at.ensures.front) h) (w c.in-Some.goal.now (line-among c.args.lines.now c.args.place c.in-Some.goal.now lt g)))) c.step_follows.ensures
+    ok-map c.step_follows.result (λ b s t E w g h.
+    line-more E c.args.lines.now c.args.place c.in-Some.goal.now lt found h
+    (s t E g (subst (EachLine E) (sym c.split_at.ensures.front) h) (w c.in-Some.goal.now (line-among c.args.lines.now c.args.place c.in-Some.goal.now lt found))))
+    c.step_follows.ensures
