@@ -1,4 +1,5 @@
-use Rattle.std.proofs.Common.{Ok, ◌∙◌, inr, map, refl, sym}
+use Rattle.std.proofs.Common.{◌≡◌, arith, Ok, ◌∙◌, inr, length, map, refl, sym}
+use Rattle.std.specs.Prelude.{vec_len}
 use Rattle.std.proofs.lemmas.List.{length-map}
 use Rattle.slotted_patterns.specs.View.{tree_of}
 use Rattle.slotted_rule_patterns.specs.Values.{values_of}
@@ -48,6 +49,7 @@ returns-clause-ok g c =
     let second = c.in_ok-found.ensures in
     let all = c.in_ok-found.found in
     let well = sound_graph c.args.graph.now.failed (Ok p) p refl first.failed.1 in
+    let counted : vec_len all ≡ length all.items = omega arith in
     record {
       pattern = p;
       between = k;
@@ -55,5 +57,5 @@ returns-clause-ok g c =
       plain = found-plain all k (has_substitution (tree_of form p)) (first.reads.failed ∙ well) second.subst;
       found = map values_of all.items;
       searched = second.found;
-      count = c.len.ensures ∙ sym (length-map all.items values_of);
+      count = c.len.ensures ∙ counted ∙ sym (length-map all.items values_of);
     }
