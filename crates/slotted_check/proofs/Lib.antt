@@ -8,3 +8,4 @@ pub mod Congruence
 pub mod WalkSteps
 pub mod LineSteps
 pub mod MoreLines
+pub mod Closings

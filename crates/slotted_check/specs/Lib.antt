@@ -5,3 +5,4 @@ pub mod Moves
 pub mod Following
 pub mod Parts
 pub mod Lines
+pub mod Openings
