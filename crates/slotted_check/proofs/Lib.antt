@@ -9,3 +9,4 @@ pub mod WalkSteps
 pub mod LineSteps
 pub mod MoreLines
 pub mod Closings
+pub mod Named

@@ -2,6 +2,7 @@
 ghost use Rattle.std.specs.Prelude.{◌≡◌, ◌≤◌, ◌+◌, List, Some, None, length, slice_get, take, IfOk, IfSome, IsTrue};
 ghost use Rattle.slotted_theory.specs.Nameless.{DTerm};
 ghost use Rattle.slotted_check.specs.declared.following.Judgement.TheVariants.{Checked};
+ghost use Rattle.slotted_check.specs.Derived.{IsDerived};
 ghost use Rattle.slotted_check.specs.Lines.{AreConsequences, EachLine, IsConsequence, IsProvedClaim, IsTermRow};
 ghost use Rattle.slotted_check.specs.Parts.{SaysLine};
 ghost use Rattle.slotted_check.specs.Rows.{IsCongruent};
@@ -178,7 +179,7 @@ fn ends_in(alloc: Global, lines: &[Equation], claim: &Equation) -> Result<bool, 
 /// Judges the proof of a claim from given equations.
 ///
 /// If it is checked, and both sides of each given equation are equal by some pairs of terms, then so are both sides of
-/// the claim.
+/// the claim. So the claim is derivable from the given equations.
 pub fn judge_proof(
     alloc: Global,
     given: &[Equation],
@@ -187,6 +188,7 @@ pub fn judge_proof(
     claim: &Equation,
 ) -> Result<Judgement, AllocError>
     ensures checked { IfOk result (λ j. (j ≡ Checked) → IsProvedClaim given.now claim.now) }
+    ensures derived { IfOk result (λ j. (j ≡ Checked) → IsDerived given.now claim.now) }
 {
     if let Some(place) = first_fault(alloc, given, lines, steps)? {
         return Ok(Judgement::Fails(place));
