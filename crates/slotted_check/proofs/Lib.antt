@@ -8,3 +8,5 @@ pub mod Congruence
 pub mod WalkSteps
 pub mod LineSteps
 pub mod MoreLines
+pub mod Closings
+pub mod Named

@@ -1,8 +1,8 @@
 -- One line more.
 use Rattle.std.proofs.Common.{◌≡◌, ◌<◌, ◌+◌, ℕ, List, [], ◌∷◌, ◌++◌, length, sym, ◌∙◌, ap, subst, inl, inr}
-use Rattle.std.specs.Prelude.{Contains, Some, slice_get, take}
+use Rattle.std.specs.Prelude.{Some, slice_get, take}
 use Rattle.std.proofs.lemmas.List.{take_more}
-use Rattle.std.proofs.lemmas.List.Elements.{Contains-append_cases, Contains-get_or}
+use Rattle.std.proofs.lemmas.List.Elements.{Contains-append_cases}
 use Rattle.std.proofs.lemmas.Option.{get_or_from_slice_get}
 use Rattle.slotted_theory.proofs.Lists.{contains_cases, Contains-nil}
 use Rattle.slotted_theory.specs.Nameless.{DTerm}
@@ -23,6 +23,3 @@ pub line-more : (E : List (DTerm × DTerm)) (lines : List Equation) (n : ℕ) (e
 line-more E lines n e lt g h s =
     let p : take (n + 1) lines ≡ take n lines ++ e ∷ [] = take_more lines n e lt ∙ ap (λ (x : Equation). take n lines ++ x ∷ []) (get_or_from_slice_get lines n e e g) in
     subst (EachLine E) (sym p) (each-more E (take n lines) e h s)
-
-pub line-among : (lines : List Equation) (n : ℕ) (e : Equation) → n < length lines → slice_get lines n ≡ Some e → Contains lines e
-line-among lines n e lt g = subst (Contains lines) (get_or_from_slice_get lines n e e g) (Contains-get_or lines n e lt)

@@ -5,3 +5,5 @@ pub mod Moves
 pub mod Following
 pub mod Parts
 pub mod Lines
+pub mod Derived
+pub mod Openings

@@ -2,10 +2,9 @@
 --     IsTermRow ps          the row is that of a term without payloads
 --     AreEqualRows E l r    the rows are those of two such terms, which are equal by E
 --     EachLine E lines      this holds of both sides of each line
---     HaveTermRows lines    the left side of each line is such a row
 --     IsConsequence given lines e      if this holds of the given equations and of the lines, then it holds of e
 --     AreConsequences given lines      if it holds of the given equations, then it holds of each line
---     IsProvedClaim given lines e      if it holds of the given equations, then it holds of e
+--     IsProvedClaim given e            if it holds of the given equations, then it holds of e
 use Rattle.std.specs.Prelude.{◌≡◌, List, Contains}
 use Rattle.slotted_theory.specs.Nameless.{DTerm}
 use Rattle.slotted_check.specs.declared.pieces.Piece.{Piece}
@@ -24,15 +23,11 @@ AreEqualRows E l r = RowsFollow (λ p. Contains E p) l r
 abbrev pub EachLine : List (DTerm × DTerm) → List Equation → Type 0
 EachLine E lines = (e : Equation) → Contains lines e → AreEqualRows E e.left.items e.right.items
 
-abbrev pub HaveTermRows : List Equation → Type 0
-HaveTermRows lines = (e : Equation) → Contains lines e → IsTermRow e.left.items
-
 abbrev pub IsConsequence : List Equation → List Equation → Equation → Type 0
-IsConsequence given lines e = (E : List (DTerm × DTerm)) → EachLine E given → EachLine E lines → IsTermRow e.left.items
-    → AreEqualRows E e.left.items e.right.items
+IsConsequence given lines e = (E : List (DTerm × DTerm)) → EachLine E given → EachLine E lines → AreEqualRows E e.left.items e.right.items
 
 abbrev pub AreConsequences : List Equation → List Equation → Type 0
-AreConsequences given lines = (E : List (DTerm × DTerm)) → HaveTermRows lines → EachLine E given → EachLine E lines
+AreConsequences given lines = (E : List (DTerm × DTerm)) → EachLine E given → EachLine E lines
 
-abbrev pub IsProvedClaim : List Equation → List Equation → Equation → Type 0
-IsProvedClaim given lines e = (E : List (DTerm × DTerm)) → HaveTermRows lines → EachLine E given → AreEqualRows E e.left.items e.right.items
+abbrev pub IsProvedClaim : List Equation → Equation → Type 0
+IsProvedClaim given e = (E : List (DTerm × DTerm)) → EachLine E given → AreEqualRows E e.left.items e.right.items

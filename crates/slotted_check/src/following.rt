@@ -2,12 +2,15 @@
 ghost use Rattle.std.specs.Prelude.{◌≡◌, ◌≤◌, ◌+◌, List, Some, None, length, slice_get, take, IfOk, IfSome, IsTrue};
 ghost use Rattle.slotted_theory.specs.Nameless.{DTerm};
 ghost use Rattle.slotted_check.specs.declared.following.Judgement.TheVariants.{Checked};
-ghost use Rattle.slotted_check.specs.Lines.{AreConsequences, EachLine, HaveTermRows, IsConsequence, IsProvedClaim};
+ghost use Rattle.slotted_check.specs.Derived.{IsDerived};
+ghost use Rattle.slotted_check.specs.Lines.{AreConsequences, EachLine, IsConsequence, IsProvedClaim, IsTermRow};
 ghost use Rattle.slotted_check.specs.Parts.{SaysLine};
+ghost use Rattle.slotted_check.specs.Rows.{IsCongruent};
 
 use crate::steps::{
     Equation, is_congruent, is_reflexive, is_symmetric, is_transitive, line_at, says,
 };
+use crate::terms::is_term;
 use std::alloc::{AllocError, Global};
 
 /// How a line follows. All numbers but that of a given equation are those of earlier lines.
@@ -51,6 +54,32 @@ fn is_renamed(
     }
 }
 
+// Returns whether both sides of an equation are one term.
+fn is_reflexive_term(alloc: Global, goal: &Equation) -> Result<bool, AllocError>
+    ensures { IfOk result (λ b. IsTrue b → IsTermRow goal.now.left.items × (goal.now.left.items ≡ goal.now.right.items)) }
+{
+    if !is_term(alloc, &goal.left)? {
+        return Ok(false);
+    }
+    Ok(is_reflexive(goal))
+}
+
+// Returns whether both sides of an equation are one operator over the sides of lines, and the left one is a term.
+fn is_congruent_term(
+    alloc: Global,
+    goal: &Equation,
+    lines: &[Equation],
+    parts: &[usize],
+) -> Result<bool, AllocError>
+    ensures { IfOk result (λ b. IsTrue b → IsTermRow goal.now.left.items
+        × IsCongruent (SaysLine lines.now) goal.now.left.items goal.now.right.items) }
+{
+    if !is_term(alloc, &goal.left)? {
+        return Ok(false);
+    }
+    is_congruent(alloc, goal, lines, parts)
+}
+
 /// Returns whether an equation follows by a step from given equations and the lines before it.
 ///
 /// If it does, and both sides of each of these are equal by some pairs of terms, then so are both of its sides.
@@ -65,7 +94,7 @@ pub fn step_follows(
 {
     match step {
         Step::Given(k) => is_renamed(alloc, goal, given, *k),
-        Step::Reflexivity => Ok(is_reflexive(goal)),
+        Step::Reflexivity => is_reflexive_term(alloc, goal),
         Step::Symmetry(p) => match line_at(lines, *p) {
             Some(part) => is_symmetric(alloc, goal, part),
             None => Ok(false),
@@ -74,7 +103,7 @@ pub fn step_follows(
             (Some(first), Some(second)) => is_transitive(alloc, goal, first, second),
             _ => Ok(false),
         },
-        Step::Congruence(parts) => is_congruent(alloc, goal, lines, parts),
+        Step::Congruence(parts) => is_congruent_term(alloc, goal, lines, parts),
     }
 }
 
@@ -96,7 +125,7 @@ fn line_follows(
     place: usize,
     step: &Step,
 ) -> Result<bool, AllocError>
-    ensures { IfOk result (λ b. IsTrue b → (E : List (DTerm × DTerm)) → HaveTermRows lines.now → EachLine E given.now
+    ensures { IfOk result (λ b. IsTrue b → (E : List (DTerm × DTerm)) → EachLine E given.now
         → EachLine E (take place lines.now) → EachLine E (take (place + 1) lines.now)) }
 {
     if place >= lines.len() {
@@ -150,7 +179,7 @@ fn ends_in(alloc: Global, lines: &[Equation], claim: &Equation) -> Result<bool, 
 /// Judges the proof of a claim from given equations.
 ///
 /// If it is checked, and both sides of each given equation are equal by some pairs of terms, then so are both sides of
-/// the claim.
+/// the claim. So the claim is derivable from the given equations.
 pub fn judge_proof(
     alloc: Global,
     given: &[Equation],
@@ -158,7 +187,8 @@ pub fn judge_proof(
     steps: &[Step],
     claim: &Equation,
 ) -> Result<Judgement, AllocError>
-    ensures checked { IfOk result (λ j. (j ≡ Checked) → IsProvedClaim given.now lines.now claim.now) }
+    ensures checked { IfOk result (λ j. (j ≡ Checked) → IsProvedClaim given.now claim.now) }
+    ensures derived { IfOk result (λ j. (j ≡ Checked) → IsDerived given.now claim.now) }
 {
     if let Some(place) = first_fault(alloc, given, lines, steps)? {
         return Ok(Judgement::Fails(place));

@@ -5,3 +5,4 @@ pub mod following;
 pub mod pieces;
 pub mod renaming;
 pub mod steps;
+pub mod terms;
