@@ -53,6 +53,9 @@ fn main(rt: HostRuntime) -> ExitCode {
     match judge_lines(&rt) {
         Ok(true) => ExitCode::SUCCESS,
         Ok(false) => ExitCode::from(2),
-        Err(_) => ExitCode::FAILURE,
+        Err(error) => {
+            let _ = eprintln!(rt; "{error}");
+            ExitCode::FAILURE
+        }
     }
 }
