@@ -33,10 +33,12 @@ module _ (written : Term → List Element) (s v : Space) (a b : Handle) where
 
   pub eq-refused : (e : WorkspaceError) → RefusesBoth s s a b (λ _ _. HadFailed s.graph s.graph) e → RefusesBoth s s a b (ProofRefused written s.graph s.graph) e
   eq-refused UnknownHandle r = r
+  eq-refused (refused.RuleText _) r = absurd r
   eq-refused (refused.Graph e) r = (weaker (λ t u. HadFailed s.graph s.graph e) (λ t u. ProofRefused written s.graph s.graph t u e) (λ t u h. inl h) r.0, r.1)
 
   pub proof-refused : (y : Bool) → IsTrue y → Compared y → (e : WorkspaceError) → RefusesBoth s v a b (ExplainRefused written s.graph v.graph) e → RefusesBoth s v a b (ProofRefused written s.graph v.graph) e
   proof-refused y said compared UnknownHandle r = r
+  proof-refused y said compared (refused.RuleText _) r = absurd r
   proof-refused y said compared (refused.Graph e) r = (
     weaker (λ t u. Compares s.graph t u y × ExplainRefused written s.graph v.graph t u e) (λ t u. ProofRefused written s.graph v.graph t u e) (λ t u p. inr (p.0.sound said, p.1))
         (with-both (λ t u. Compares s.graph t u y) (λ t u. ExplainRefused written s.graph v.graph t u e) compared r.0),
@@ -45,6 +47,7 @@ module _ (written : Term → List Element) (s v : Space) (a b : Handle) where
 
   pub count-refused : (y : Bool) → Compared y → (e : WorkspaceError) → Refuses s s (HadFailed s.graph s.graph) e → RefusesBoth s s a b (ProofRefused written s.graph s.graph) e
   count-refused y compared UnknownHandle r = absurd r
+  count-refused y compared (refused.RuleText _) r = absurd r
   count-refused y compared (refused.Graph e) r = (weaker (λ t u. Compares s.graph t u y) (λ t u. ProofRefused written s.graph s.graph t u e) (λ t u p. inl r.0) compared, r.1)
 
   -- verdicts

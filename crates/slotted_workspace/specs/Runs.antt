@@ -6,17 +6,18 @@
 --     RunRefused ..                such a run was refused
 --     RunAnswers .. o              what such a run answers
 --     OfRules form s P             P holds of some rules that are those of the workspace
-use Rattle.std.specs.Prelude.{◌≡◌, ◌⊎◌, ◌≤◌, ◌<◌, ◌-◌, ◌^◌, ℕ, List, length, map, false, Option, None, Some, Result, Ok, Err, IsTrue, String, codes, string_bytes}
+use Rattle.std.specs.Prelude.{◌≡◌, ◌⊎◌, ◌↔◌, ◌≤◌, ◌<◌, ◌-◌, ◌^◌, ℕ, List, length, map, false, Option, None, Some, Result, Ok, Err, IsTrue, String, codes, string_bytes}
 use Rattle.std.specs.declared.alloc.Global.{Global}
 use Rattle.slotted_slots.specs.declared.error.Error.{Error}
+use Rattle.slotted_slots.specs.Error.{IsShortage}
 use Rattle.slotted_nodes.specs.Form.{Form}
 use Rattle.slotted_patterns.specs.View.{tree_of}
 use Rattle.slotted_operations.specs.Graph.{Graph}
 use Rattle.slotted_graph.specs.Extension.{ExtendsTo}
 use Rattle.slotted_model_rules.specs.Conditions.{Values}
-use Rattle.slotted_rules.specs.Applying.{NeverModified}
-use Rattle.slotted_rules.specs.Counting.{AppliesRule, SearchesRule}
-use Rattle.slotted_rules.specs.TreeAnswers.{AnswersTree}
+use Rattle.slotted_rules.specs.Applying.{AreRefusedBy, NeverModified}
+use Rattle.slotted_rules.specs.Counting.{AppliesRule, RefusesRule, SearchesRule}
+use Rattle.slotted_rules.specs.TreeAnswers.{AnswersTree, TreeRefuses}
 use Rattle.slotted_rules.specs.declared.condition_tree.CondTree.{CondTree}
 use Rattle.slotted_rules.specs.declared.rewrite.Rewrite.{Rewrite}
 use Rattle.slotted_runs.specs.Eqsat.{HasEqsatReported, HasRefusedEqsat}
@@ -62,6 +63,8 @@ pub record HasRun {L : Type 0} (form : L → Form) (rules : List (Rewrite L Cond
 pub record IsRefusedRun {L : Type 0} (form : L → Form) (rules : List (Rewrite L CondTree)) (turns nodes : ℕ) (g h : Graph) (e : Error) : Type 0 where
   pub well : g.failed ≡ false
   pub extends : IsTrue h.failed ⊎ ExtendsTo g h
+  pub fails : IsTrue h.failed ↔ IsShortage e
+  pub cause : IsShortage e ⊎ AreRefusedBy (RefusesRule form (λ c s _. TreeRefuses c s)) rules e
   pub hook : NodeLimit
   pub limit : hook.nodes ≡ nodes
   pub last : NodeLimit
