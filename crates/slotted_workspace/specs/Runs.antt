@@ -11,7 +11,6 @@ use Rattle.std.specs.declared.alloc.Global.{Global}
 use Rattle.slotted_slots.specs.declared.error.Error.{Error}
 use Rattle.slotted_slots.specs.Error.{IsShortage}
 use Rattle.slotted_nodes.specs.Form.{Form}
-use Rattle.slotted_patterns.specs.View.{tree_of}
 use Rattle.slotted_operations.specs.Graph.{Graph}
 use Rattle.slotted_graph.specs.Extension.{ExtendsTo}
 use Rattle.slotted_model_rules.specs.Conditions.{Values}

@@ -4,7 +4,7 @@
 --     Space              its number, its graph, its terms in the order in which they were added, and its rules
 --     empty_space n      a workspace with the number n, in which nothing was done
 --     term_at s h        the term that the handle h stands for, if it is one of this workspace
-use Rattle.std.specs.Prelude.{ℕ, List, [], Option, None, false, if◌then◌else◌, nat_eq, refl, slice_get, string_bytes}
+use Rattle.std.specs.Prelude.{ℕ, List, [], Option, None, if◌then◌else◌, nat_eq, refl, slice_get, string_bytes}
 use Rattle.std.specs.Coded.{Coded, code_by, coded×, coded_ℕ, coded_list}
 use Rattle.slotted_slots.specs.Table.{empty_table}
 use Rattle.slotted_theory.specs.Term.{Term, term_code}

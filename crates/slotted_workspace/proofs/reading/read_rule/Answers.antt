@@ -1,11 +1,11 @@
 use Rattle.std.proofs.Common.{inr}
-use Rattle.std.proofs.lemmas.Result.{IfErr-weaker, IfOk-weaker, err_from_is_err_and}
+use Rattle.std.proofs.lemmas.Result.{IfErr-weaker, err_from_is_err_and}
 use Rattle.slotted_patterns.specs.View.{tree_of}
 use Rattle.slotted_explain.proofs.CallerLemmas.{reads_twice}
 use Rattle.slotted_graph.proofs.Extending.{extends-read}
 use Rattle.slotted_rules.specs.Reading.{tree_reads}
-use Rattle.slotted_rules.specs.Written.{IsRefusedRule, IsRule}
-use Rattle.slotted_workspace.specs.Asked.{ReadsRule, RuleRefused}
+use Rattle.slotted_rules.specs.Written.{IsRefusedRule}
+use Rattle.slotted_workspace.specs.Asked.{RuleRefused}
 use Rattle.slotted_workspace.proofs.Rules.{left-refused, right-refused, rule-read, rule-refused, searchable}
 use Rattle.slotted_workspace.proofs.Saying.{well-answered}
 use Rattle.slotted_workspace.proofs.reading.read_rule.Goals as goal

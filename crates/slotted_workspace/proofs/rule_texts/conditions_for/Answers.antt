@@ -1,4 +1,4 @@
-use Rattle.std.proofs.Common.{List, refl, subst, sym, take}
+use Rattle.std.proofs.Common.{List, subst, sym, take}
 use Rattle.std.specs.Prelude.{map}
 use Rattle.std.proofs.lemmas.List.{map_more}
 use Rattle.slotted_languages.proofs.HandedOn.{handed_err}

@@ -7,9 +7,7 @@ use Rattle.slotted_rule_texts.specs.Told.{told_condition, told_rule}
 use Rattle.slotted_rule_texts.specs.declared.rule_text.SlotCondition.{SlotCondition}
 use Rattle.slotted_rules.specs.Written.{CanBeSearched}
 use Rattle.slotted_rules.specs.WrittenLaws.{valid-later}
-use Rattle.slotted_rules.specs.declared.condition_tree.CondTree.{CondTree}
-use Rattle.slotted_rules.specs.declared.rewrite.Rewrite.{Rewrite}
-use Rattle.slotted_workspace.specs.RuleTexts.{ConditionalRefused, ReadsConditional, RulesRefused, both_ways, first_refused, no_memory, one_way}
+use Rattle.slotted_workspace.specs.RuleTexts.{ConditionalRefused, ReadsConditional, RulesRefused, both_ways, first_refused, one_way}
 use Rattle.slotted_workspace.proofs.RuleTexts.{conditional-only, extends-behind, second-refused}
 use Rattle.slotted_workspace.proofs.rule_texts.read_rules.Goals as goal
 
