@@ -12,6 +12,4 @@ mod doubles;
 #[cfg(test)]
 mod limits;
 #[cfg(test)]
-mod notes;
-#[cfg(test)]
 mod turns;
