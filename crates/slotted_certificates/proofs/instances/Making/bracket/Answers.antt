@@ -1,0 +1,11 @@
+use Rattle.std.specs.Prelude.{map}
+use Rattle.slotted_certificates.specs.Grammar.{binds_in}
+use Rattle.slotted_certificates.specs.Meaning.{IsValueIn}
+use Rattle.slotted_certificates.proofs.Passing.{bracket-passes}
+use Rattle.slotted_certificates.proofs.instances.Making.bracket.Goals as goal
+
+pub returns-clause-passed : goal.returns-clause-passed
+returns-clause-passed c t =
+    let m = c.args.self.now in
+    bracket-passes (binds_in m.binders.now) (IsValueIn (map (λ r. r.items) m.values.now)) m.row.items c.push.new.self.items m.frames.items c.push-2.new.self.items c.args.operator c.args.next
+    c.in_ok-push.ensures.items c.in_ok-push-2.ensures.items (c.is_inside.ensures.yes c.if-not-is_inside.false)

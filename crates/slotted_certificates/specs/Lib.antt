@@ -1,0 +1,10 @@
+-- What texts of terms say.
+pub mod Scopes
+pub mod Grammar
+pub mod Frames
+pub mod Meaning
+pub mod Texts
+pub mod Given
+pub mod Free
+pub mod Rules
+pub mod Following

@@ -1,0 +1,11 @@
+//! What the text of a certificate says: terms, assertions, and instances of rules.
+#![tactic(auto)]
+
+pub mod claims;
+pub mod frames;
+pub mod given;
+pub mod instances;
+pub mod rules;
+pub mod scopes;
+pub mod spelling;
+pub mod tokens;
