@@ -5,3 +5,5 @@ pub mod Passing
 pub mod GivenRows
 pub mod FreeNames
 pub mod Claimed
+pub mod Matches
+pub mod Turnings

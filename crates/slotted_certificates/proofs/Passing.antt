@@ -60,7 +60,7 @@ close-passes b v row row1 row' fs fs1 fs' n next one last e = record {
       (close-stands b v (frames fs1) n ts (e.pieces ++ ps) (e.goes ts ps h));
 }
 
-moved-value : (f : ℕ → ℕ) (d : DTerm) → moved_row f (row d) ≡ row (moved f d)
+pub moved-value : (f : ℕ → ℕ) (d : DTerm) → moved_row f (row d) ≡ row (moved f d)
 moved-value f d = sym (ap (moved_row f) (append-nil (row d))) ∙ (moved_row-row f d [] ∙ append-nil (row (moved f d)))
 
 pub value-passes : (b : ℕ → Bool) (vs : List (List Piece)) (row0 row1 row' value : List Piece) (fs fs' : List Frame) (ns : List ℕ) (k : ℕ) (next : Bool) →

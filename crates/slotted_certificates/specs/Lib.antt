@@ -8,3 +8,7 @@ pub mod Given
 pub mod Free
 pub mod Rules
 pub mod Following
+pub mod Substitution
+pub mod Turning
+pub mod Comparing
+pub mod Fronts

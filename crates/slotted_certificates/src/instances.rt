@@ -20,21 +20,21 @@ use slotted_check::terms::is_term;
 use std::alloc::{AllocError, Global};
 
 // Returns one more scope, unless there are too many.
-fn deeper(depth: usize) -> Option<usize>
+pub(crate) fn deeper(depth: usize) -> Option<usize>
     ensures { IfSome result (λ n. n ≡ depth + 1) }
 {
     depth.checked_add(1)
 }
 
 // Returns one scope less, if there is one.
-fn shallower(depth: usize) -> Option<usize>
+pub(crate) fn shallower(depth: usize) -> Option<usize>
     ensures { IfSome result (λ n. depth ≡ n + 1) }
 {
     depth.checked_sub(1)
 }
 
 // Returns a sum, unless it is too large.
-fn sum(a: usize, b: usize) -> Option<usize>
+pub(crate) fn sum(a: usize, b: usize) -> Option<usize>
     ensures { IfSome result (λ n. n ≡ a + b) }
 {
     a.checked_add(b)

@@ -8,4 +8,5 @@ pub mod instances;
 pub mod rules;
 pub mod scopes;
 pub mod spelling;
+pub mod substitution;
 pub mod tokens;
