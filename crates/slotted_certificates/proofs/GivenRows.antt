@@ -1,5 +1,5 @@
 -- Terms with names for the rows that code makes.
-use Rattle.std.proofs.Common.{◌≡◌, ℕ, List, [], sym, ◌∙◌, ap, subst}
+use Rattle.std.proofs.Common.{◌≡◌, ℕ, List, [], length, sym, ◌∙◌, ap, subst}
 use Rattle.std.specs.Prelude.{Bool, Option, Some, None, IfSome, Result, Ok, Err, IfOk}
 use Rattle.slotted_theory.specs.Term.{Term}
 use Rattle.slotted_theory.specs.Nameless.{DTerm, nameless}
@@ -9,6 +9,8 @@ use Rattle.slotted_check.specs.declared.steps.Equation.{Equation}
 use Rattle.slotted_check.specs.Derived.{IsRowsOf}
 use Rattle.slotted_check.specs.Rows.{row, IsPlain}
 use Rattle.slotted_certificates.specs.declared.rules.Condition.{Condition}
+use Rattle.slotted_certificates.specs.declared.puts.Put.{Put}
+use Rattle.slotted_certificates.specs.Puts.{AreValues}
 use Rattle.slotted_certificates.specs.Rules.{EachHolds, InstanceRows, IsRuleOf}
 use Rattle.slotted_certificates.specs.declared.tokens.Token.{Token}
 use Rattle.slotted_certificates.specs.Grammar.{IsTermOf, binds_in}
@@ -55,15 +57,15 @@ rows-asserted ops bs line name slots l r e different text left right =
       asserted = record { name = name; slots = slots; different = different; left = l; right = r; text = text; left_is = h.is; right_is = k.is };
     }
 
-pub rows-instance : (ops : List (List ℕ)) (bs : List ℕ) (line : List ℕ) (slots variables : List (List ℕ)) (name : List ℕ) (both : Bool) (l r : List Token) (cs : List Condition)
-    (vs : List (List Piece)) (e : Equation) → IsRuleOf ops slots variables name both l r cs line → EachHolds vs cs → IsInstance bs vs l e.left.items → IsInstance bs vs r e.right.items →
-    InstanceRows ops bs line both e
-rows-instance ops bs line slots variables name both l r cs vs e rule hold left right =
-    let h = named bs vs l e.left.items left in
-    let k = named bs vs r e.right.items right in
+pub rows-instance : (ops : List (List ℕ)) (bs : List ℕ) (line : List ℕ) (slots variables : List (List ℕ)) (puts : List Put) (name : List ℕ) (both : Bool) (l r : List Token) (cs : List Condition)
+    (vs all : List (List Piece)) (e : Equation) → IsRuleOf ops slots variables puts name both l r cs line → length vs ≡ length variables → AreValues bs vs puts all → EachHolds vs cs →
+    IsInstance bs all l e.left.items → IsInstance bs all r e.right.items → InstanceRows ops bs line both e
+rows-instance ops bs line slots variables puts name both l r cs vs all e rule many are hold left right =
+    let h = named bs all l e.left.items left in
+    let k = named bs all r e.right.items right in
     record {
       left = h.term;
       right = k.term;
-      rows = rows-named bs vs l r e h k;
-      is = record { slots = slots; variables = variables; name = name; left = l; right = r; conditions = cs; rule = rule; values = vs; hold = hold; left_is = h.is; right_is = k.is };
+      rows = rows-named bs all l r e h k;
+      is = record { slots = slots; variables = variables; puts = puts; name = name; left = l; right = r; conditions = cs; rule = rule; values = vs; as_many = many; all = all; all_are = are; hold = hold; left_is = h.is; right_is = k.is };
     }

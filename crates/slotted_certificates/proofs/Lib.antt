@@ -7,3 +7,4 @@ pub mod FreeNames
 pub mod Claimed
 pub mod Matches
 pub mod Turnings
+pub mod PutLaws

@@ -41,8 +41,17 @@ kept-end x t e es p ps behind first same h = record {
   depth = ap (λ q. depth_behind q (leaves (e ∷ es))) first ∙ end-depth e es;
   closes = subst (Closes es) (sym same) h;
   goes = λ qs k. record {
-    args = stop; made = stop; later = ps; more = qs; is = no_argument; given = tt; plain = tt;
-    from = (λ i. first i ∷ ps); to = (λ i. first i ∷ qs); rest = k };
+    args = stop;
+    made = stop;
+    later = ps;
+    more = qs;
+    is = no_argument;
+    given = tt;
+    plain = tt;
+    from = (λ i. first i ∷ ps);
+    to = (λ i. first i ∷ qs);
+    rest = k;
+  };
 }
 
 -- a name
@@ -53,8 +62,17 @@ kept-name x t e es p ps behind y r first same plain h = record {
   depth = ap (λ q. depth_behind q (leaves (e ∷ es))) first;
   closes = record { args = r; plain = plain; behind = behind; is = same; rest = h };
   goes = λ qs k. record {
-    args = place y k.args; made = place y k.made; later = k.later; more = k.more; is = own_name y k.is; given = k.given; plain = k.plain;
-    from = (λ i. first i ∷ k.from i); to = (λ i. first i ∷ k.to i); rest = k.rest };
+    args = place y k.args;
+    made = place y k.made;
+    later = k.later;
+    more = k.more;
+    is = own_name y k.is;
+    given = k.given;
+    plain = k.plain;
+    from = (λ i. first i ∷ k.from i);
+    to = (λ i. first i ∷ k.to i);
+    rest = k.rest;
+  };
 }
 
 -- the beginning of a node that is not the part
@@ -74,7 +92,8 @@ kept-head x t e es p ps behind o a r first same inner plain h not = record {
     plain = (refl, k.plain, k.rest.plain);
     from = (λ i. first i ∷ (k.from ∙ (ap (λ u. row_args closing k.args ++ u) k.rest.from ∙ sym (append_assoc (row_args closing k.args) (row_args e k.rest.args) k.rest.later))) i);
     to = (λ i. first i ∷ (k.to ∙ (ap (λ u. row_args closing k.made ++ u) k.rest.to ∙ sym (append_assoc (row_args closing k.made) (row_args e k.rest.made) k.rest.more))) i);
-    rest = k.rest.rest };
+    rest = k.rest.rest;
+  };
 }
 
 -- the beginning of a scope
@@ -96,7 +115,8 @@ kept-scope x t e es p ps behind a r first same inner plain h =
         plain = (k.plain, k.rest.plain);
         from = (λ i. first i ∷ (k.from ∙ (ap (λ u. row_args leaving k.args ++ u) k.rest.from ∙ sym (append_assoc (row_args leaving k.args) (row_args e k.rest.args) k.rest.later))) i);
         to = (λ i. first i ∷ (k.to ∙ (ap (λ u. row_args leaving k.made ++ u) k.rest.to ∙ sym (append_assoc (row_args leaving k.made) (row_args e k.rest.made) k.rest.more))) i);
-        rest = k.rest.rest };
+        rest = k.rest.rest;
+      };
     }
 
 kept-args : (x t : DTerm) (e : End) (es : List End) (p : Piece) (ps : List Piece) (a : DArgs) (behind : List Piece) → ArePlain a → p ∷ ps ≡ row_args e a ++ behind → Closes es behind →
@@ -129,7 +149,7 @@ put-args x t e es ps (sub o payloads a r) behind later px pt plain is h found =
     let n : ℕ = leaves (e ∷ es) in
     let f : ℕ → ℕ = λ m. m + n in
     let one = one_term (node o payloads a) (shift n x) (row_args e r ++ behind) later (plain.0, plain.1) (IsPlain-moved f x px)
-      (ap (λ u. Head o ∷ u) (sym (append_assoc (row_args closing a) (row_args e r) behind)) ∙ (sym is ∙ found)) in
+    (ap (λ u. Head o ∷ u) (sym (append_assoc (row_args closing a) (row_args e r) behind)) ∙ (sym is ∙ found)) in
     record {
       closes = record { args = r; plain = plain.2; behind = behind; is = sym one.1; rest = h };
       goes = λ qs k. record {
@@ -142,7 +162,8 @@ put-args x t e es ps (sub o payloads a r) behind later px pt plain is h found =
         plain = ((IsPlain-moved f t pt).0, (IsPlain-moved f t pt).1, k.plain);
         from = found ∙ (ap (λ u. row (shift n x) ++ u) k.from ∙ ap (λ u. Head (shift n x).op ∷ u) (sym (append_assoc (row_args closing (shift n x).args) (row_args e k.args) k.later)));
         to = ap (λ u. row (shift n t) ++ u) k.to ∙ ap (λ u. Head (shift n t).op ∷ u) (sym (append_assoc (row_args closing (shift n t).args) (row_args e k.made) k.more));
-        rest = k.rest };
+        rest = k.rest;
+      };
     }
 
 pub put-found : (x t : DTerm) (es : List End) (ps later : List Piece) → IsPlain x → IsPlain t → Closes es ps → ps ≡ row (shift (leaves es) x) ++ later → Puts x t es ps later
@@ -169,7 +190,7 @@ pub turned-other : (part value ps behind out new : List Piece) (k n : ℕ) → (
     StepsTo part value k ps n behind out new
 turned-other part value ps behind out new k n not first x t px pt ex et es d h =
     let p = kept x t es first.piece behind (subst (Closes es) first.is h)
-      (λ later e. not later (first.is ∙ (e ∙ ap (λ u. u ++ later) (sym (seen-part k es part x ex d))))) in
+    (λ later e. not later (first.is ∙ (e ∙ ap (λ u. u ++ later) (sym (seen-part k es part x ex d))))) in
     record {
       ends = p.ends;
       depth = first.depth ∙ (ap (depth_behind first.piece) d ∙ p.depth);

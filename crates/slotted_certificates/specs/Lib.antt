@@ -6,9 +6,10 @@ pub mod Meaning
 pub mod Texts
 pub mod Given
 pub mod Free
+pub mod Substitution
+pub mod Puts
 pub mod Rules
 pub mod Following
-pub mod Substitution
 pub mod Turning
 pub mod Comparing
 pub mod Fronts

@@ -3,7 +3,7 @@
 --     Holds vs c                   the condition c holds of the values vs
 --     IsRuleInstance ops bs line t u     t and u are instances of the sides of the line's rule, with the same values, of which its conditions hold
 --     IsGivenBy ops bs line t u    the line asserts t = u, or this is an instance of its rule, or of its rule turned round if that goes both ways
-use Rattle.std.specs.Prelude.{◌≡◌, ◌⊎◌, ℕ, Bool, true, false, if◌then◌else◌, List, [], ◌∷◌, ◌++◌, map, Option, Some, None, IsTrue, slice_get, codes}
+use Rattle.std.specs.Prelude.{◌≡◌, ◌⊎◌, ℕ, Bool, true, false, if◌then◌else◌, List, [], ◌∷◌, ◌++◌, length, map, Option, Some, None, IsTrue, slice_get, codes}
 use Rattle.slotted_theory.specs.Term.{Term}
 use Rattle.slotted_theory.specs.Nameless.{DTerm, nameless}
 use Rattle.slotted_check.specs.declared.pieces.Piece.{Piece}
@@ -15,6 +15,8 @@ use Rattle.slotted_certificates.specs.Free.{IsFreeName}
 use Rattle.slotted_certificates.specs.Given.{AreDifferent, IsAsserted, IsSidesText}
 use Rattle.slotted_certificates.specs.Grammar.{IsTermOf, binds_in}
 use Rattle.slotted_certificates.specs.Meaning.{IsValueIn}
+use Rattle.slotted_certificates.specs.declared.puts.Put.{Put}
+use Rattle.slotted_certificates.specs.Puts.{AreTexts, AreValues}
 use Rattle.slotted_certificates.specs.Texts.{Adds, Words, is_word, spelled, together, words}
 
 abbrev pub AreWords : List (List ℕ) → Type 0
@@ -23,10 +25,10 @@ AreWords (v ∷ vs) = IsTrue (is_word v) × AreWords vs
 
 -- the texts of variables
 abbrev pub variable_texts : List (List ℕ) → List (List ℕ)
-variable_texts vs = map (λ v. codes " ?" ++ v) vs
+variable_texts vs = map (λ v. codes "?" ++ v) vs
 
 abbrev pub occurrence_text : Bool → List ℕ
-occurrence_text is_free = if is_free then codes " in" else codes " not in"
+occurrence_text is_free = if is_free then codes " in " else codes " not in "
 
 abbrev pub condition_text : Words → Condition → Option (List ℕ)
 condition_text w c = together (spelled (codes " $") (slice_get w.slots c.slot)) (together (Some (occurrence_text c.is_free)) (slice_get w.values c.variable))
@@ -65,24 +67,31 @@ pub record IsRuleText (w : Words) (name : List ℕ) (both : Bool) (left right : 
   pub is : line ≡ sides ++ asked
 
 -- a line is a rule of these parts, and no two of its slots or variables have one word
-pub record IsRuleOf (ops slots variables : List (List ℕ)) (name : List ℕ) (both : Bool) (left right : List Token) (conditions : List Condition) (line : List ℕ) : Type 0 where
+pub record IsRuleOf (ops slots variables : List (List ℕ)) (puts : List Put) (name : List ℕ) (both : Bool) (left right : List Token) (conditions : List Condition) (line : List ℕ) : Type 0 where
   pub slots_differ : AreDifferent slots
   pub variables_differ : AreDifferent variables
   pub variables_are : AreWords variables
-  pub text : IsRuleText (words ops slots (variable_texts variables)) name both left right conditions line
+  pub texts : List (List ℕ)
+  pub texts_are : AreTexts ops slots (variable_texts variables) puts texts
+  pub text : IsRuleText (words ops slots texts) name both left right conditions line
 
 pub record IsRuleInstance (ops : List (List ℕ)) (bs : List ℕ) (line : List ℕ) (both : Bool) (t u : Term) : Type 0 where
   pub slots : List (List ℕ)
   pub variables : List (List ℕ)
+  pub puts : List Put
   pub name : List ℕ
   pub left : List Token
   pub right : List Token
   pub conditions : List Condition
-  pub rule : IsRuleOf ops slots variables name both left right conditions line
+  pub rule : IsRuleOf ops slots variables puts name both left right conditions line
+  -- one for each variable, and then one for each substitution
   pub values : List (List Piece)
+  pub as_many : length values ≡ length variables
+  pub all : List (List Piece)
+  pub all_are : AreValues bs values puts all
   pub hold : EachHolds values conditions
-  pub left_is : IsTermOf (binds_in bs) (IsValueIn values) (λ y. y) left (nameless t)
-  pub right_is : IsTermOf (binds_in bs) (IsValueIn values) (λ y. y) right (nameless u)
+  pub left_is : IsTermOf (binds_in bs) (IsValueIn all) (λ y. y) left (nameless t)
+  pub right_is : IsTermOf (binds_in bs) (IsValueIn all) (λ y. y) right (nameless u)
 
 abbrev pub IsGivenBy : List (List ℕ) → List ℕ → List ℕ → Term → Term → Type 0
 IsGivenBy ops bs line t u =

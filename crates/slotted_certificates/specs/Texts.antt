@@ -33,22 +33,38 @@ abbrev pub spelled : List ℕ → Option (List ℕ) → Option (List ℕ)
 spelled before None = None
 spelled before (Some w) = if is_word w then Some (before ++ w) else None
 
-abbrev pub token_text : Words → Token → Option (List ℕ)
-token_text w (Leaf n) = spelled (codes " ") (slice_get w.operators n)
-token_text w (Bracket n) = spelled (codes " (") (slice_get w.operators n)
-token_text w Close = Some (codes ")")
-token_text w (Slot x) = spelled (codes " $") (slice_get w.slots x)
-token_text w (Value v) = slice_get w.values v
-
 -- one text behind another
 abbrev pub together : Option (List ℕ) → Option (List ℕ) → Option (List ℕ)
 together None o = None
 together (Some bs) None = None
 together (Some bs) (Some cs) = Some (bs ++ cs)
 
+-- a part without the blank in front
+abbrev pub bare_text : Words → Token → Option (List ℕ)
+bare_text w (Leaf n) = spelled [] (slice_get w.operators n)
+bare_text w (Bracket n) = spelled (codes "(") (slice_get w.operators n)
+bare_text w Close = Some (codes ")")
+bare_text w (Slot x) = spelled (codes "$") (slice_get w.slots x)
+bare_text w (Value v) = slice_get w.values v
+
+abbrev pub blank_before : Token → List ℕ
+blank_before (Leaf n) = codes " "
+blank_before (Bracket n) = codes " "
+blank_before Close = []
+blank_before (Slot x) = codes " "
+blank_before (Value v) = codes " "
+
+abbrev pub token_text : Words → Token → Option (List ℕ)
+token_text w t = together (Some (blank_before t)) (bare_text w t)
+
 abbrev pub text_of : Words → List Token → Option (List ℕ)
 text_of w [] = Some []
 text_of w (t ∷ ts) = together (token_text w t) (text_of w ts)
+
+-- the same without the blank in front of the first part
+abbrev pub bare_text_of : Words → List Token → Option (List ℕ)
+bare_text_of w [] = None
+bare_text_of w (t ∷ ts) = together (bare_text w t) (text_of w ts)
 
 pub record Adds (o : Option (List ℕ)) (old new : List ℕ) : Type 0 where
   pub bytes : List ℕ

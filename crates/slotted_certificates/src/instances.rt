@@ -349,7 +349,7 @@ pub(crate) fn is_done<T>(items: &[T]) -> bool
 }
 
 // Returns the first part of a text, and what stands behind it.
-fn first_of<'a>(tokens: &'a [Token]) -> Option<(Token, &'a [Token])>
+pub(crate) fn first_of<'a>(tokens: &'a [Token]) -> Option<(Token, &'a [Token])>
     ensures { IfSome result (λ p. tokens.now ≡ p.0 ∷ p.1.now) }
 {
     if tokens.is_empty() {

@@ -5,6 +5,7 @@ pub mod claims;
 pub mod frames;
 pub mod given;
 pub mod instances;
+pub mod puts;
 pub mod rules;
 pub mod scopes;
 pub mod spelling;

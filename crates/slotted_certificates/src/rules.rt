@@ -4,11 +4,13 @@ ghost use Rattle.slotted_check.specs.Rows.{down};
 ghost use Rattle.slotted_certificates.specs.Free.{free_in_row};
 ghost use Rattle.slotted_certificates.specs.Given.{AreDifferent, IsSidesText};
 ghost use Rattle.slotted_certificates.specs.Meaning.{AreTermRows};
+ghost use Rattle.slotted_certificates.specs.Puts.{AreTexts, AreValues};
 ghost use Rattle.slotted_certificates.specs.Rules.{AddsCondition, AreWords, InstanceRows, IsRuleOf, before_condition, EachHolds, Holds, IsRuleText, condition_text, conditions_text, occurrence_text, rule_sign, variable_texts};
 ghost use Rattle.slotted_certificates.specs.Texts.{Adds, words, words_of};
 
 use crate::given::{are_different, differ, sides, sides_text};
 use crate::instances::{are_terms, is_done, value_at};
+use crate::puts::{Put, add_texts, add_values, copied};
 use crate::spelling::{Spelling, is_word, push_text, push_value_text, push_word};
 use crate::tokens::Token;
 use slotted_check::pieces::Piece;
@@ -131,9 +133,9 @@ fn are_met(conditions: &[Condition], values: &[Vec<Piece>]) -> bool
 
 // Returns the text of a variable.
 fn variable_text(alloc: Global, variable: &str) -> Result<String, AllocError>
-    ensures { IfOk result (λ s. string_bytes s ≡ codes " ?" ++ variable.now) }
+    ensures { IfOk result (λ s. string_bytes s ≡ codes "?" ++ variable.now) }
 {
-    let mut text = String::from_str(alloc, " ?")?;
+    let mut text = String::from_str(alloc, "?")?;
     text.push_str(variable)?;
     Ok(text)
 }
@@ -190,7 +192,11 @@ fn push_condition(
     if !push_word(out, " $", words.slots, condition.slot)? {
         return Ok(false);
     }
-    out.push_str(if condition.is_free { " in" } else { " not in" })?;
+    out.push_str(if condition.is_free {
+        " in "
+    } else {
+        " not in "
+    })?;
     push_value_text(out, words.values, condition.variable)
 }
 
@@ -256,6 +262,8 @@ pub struct Rule {
     /// The sides.
     pub left: Vec<Token>,
     pub right: Vec<Token>,
+    /// The substitutions in the sides, each of which is numbered behind the variables and those before it.
+    pub puts: Vec<Put>,
     /// The conditions, all of which have to hold.
     pub conditions: Vec<Condition>,
 }
@@ -321,6 +329,29 @@ fn is_rule_text(
     }
 }
 
+// Returns the texts of the variables and of the substitutions of a rule.
+fn texts_of_values(
+    alloc: Global,
+    operators: &[String],
+    rule: &Rule,
+) -> Result<Option<Vec<String>>, AllocError>
+    ensures texts { IfOk result (λ o. IfSome o (λ v. AreTexts (map string_bytes operators.now)
+        (map string_bytes rule.now.slots.items) (variable_texts (map string_bytes rule.now.variables.items))
+        rule.now.puts.items (map string_bytes v.items))) }
+    ensures words { IfOk result (λ o. IfSome o (λ v. AreWords (map string_bytes rule.now.variables.items))) }
+{
+    match texts_of_variables(alloc, &rule.variables)? {
+        Some(texts) => {
+            let mut texts = texts;
+            if !add_texts(alloc, operators, &rule.slots, &mut texts, &rule.puts)? {
+                return Ok(None);
+            }
+            Ok(Some(texts))
+        }
+        None => Ok(None),
+    }
+}
+
 // Returns whether a line is the text of a rule, and no two of its slots or variables have one word.
 fn is_rule_of(
     alloc: Global,
@@ -329,14 +360,14 @@ fn is_rule_of(
     rule: &Rule,
 ) -> Result<bool, AllocError>
     ensures { IfOk result (λ b. IsTrue b → IsRuleOf (map string_bytes operators.now)
-        (map string_bytes rule.now.slots.items) (map string_bytes rule.now.variables.items)
+        (map string_bytes rule.now.slots.items) (map string_bytes rule.now.variables.items) rule.now.puts.items
         (string_bytes rule.now.name) rule.now.goes_back rule.now.left.items rule.now.right.items
         rule.now.conditions.items line.now) }
 {
     if !are_different(&rule.slots) || !are_different(&rule.variables) {
         return Ok(false);
     }
-    match texts_of_variables(alloc, &rule.variables)? {
+    match texts_of_values(alloc, operators, rule)? {
         Some(texts) => {
             let words = Spelling {
                 operators,
@@ -347,6 +378,43 @@ fn is_rule_of(
         }
         None => Ok(false),
     }
+}
+
+// Returns values of variables, and behind them those of a rule's substitutions.
+fn all_values(
+    alloc: Global,
+    binders: &[usize],
+    rule: &Rule,
+    values: &[Vec<Piece>],
+) -> Result<Option<Vec<Vec<Piece>>>, AllocError>
+    ensures { IfOk result (λ o. IfSome o (λ all. AreValues binders.now (map (λ v. v.items) values.now)
+        rule.now.puts.items (map (λ v. v.items) all.items))) }
+{
+    let mut all = copied(alloc, values)?;
+    if !add_values(alloc, binders, &mut all, &rule.puts)? {
+        return Ok(None);
+    }
+    Ok(Some(all))
+}
+
+// Returns whether there is a value for each variable of a rule.
+fn has_as_many(rule: &Rule, values: &[Vec<Piece>]) -> bool
+    ensures { IsTrue result → length (map (λ v. v.items) values.now)
+        ≡ length (map string_bytes rule.now.variables.items) }
+{
+    values.len() == rule.variables.len()
+}
+
+// Returns whether there is a value for each variable of a rule, all of them are terms, and meet its conditions.
+fn are_values_of(alloc: Global, rule: &Rule, values: &[Vec<Piece>]) -> Result<bool, AllocError>
+    ensures many { IfOk result (λ b. IsTrue b → length (map (λ v. v.items) values.now)
+        ≡ length (map string_bytes rule.now.variables.items)) }
+    ensures hold { IfOk result (λ b. IsTrue b → EachHolds (map (λ v. v.items) values.now) rule.now.conditions.items) }
+{
+    if !has_as_many(rule, values) || !are_terms(alloc, values)? {
+        return Ok(false);
+    }
+    Ok(are_met(&rule.conditions, values))
 }
 
 /// Returns the equation between the instances of a rule's sides, with values in the places of its variables. There is
@@ -363,11 +431,11 @@ pub fn rule_instance(
     ensures { IfOk result (λ o. IfSome o
         (λ e. InstanceRows (map string_bytes operators.now) binders.now line.now rule.now.goes_back e)) }
 {
-    if !is_rule_of(alloc, operators, line, rule)? || !are_terms(alloc, values)? {
+    if !is_rule_of(alloc, operators, line, rule)? || !are_values_of(alloc, rule, values)? {
         return Ok(None);
     }
-    if !are_met(&rule.conditions, values) {
-        return Ok(None);
+    match all_values(alloc, binders, rule, values)? {
+        Some(all) => sides(alloc, binders, &rule.left, &rule.right, &all),
+        None => Ok(None),
     }
-    sides(alloc, binders, &rule.left, &rule.right, values)
 }

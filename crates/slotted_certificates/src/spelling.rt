@@ -1,8 +1,8 @@
 //! The texts of terms and patterns, made of their parts.
 ghost use Rattle.std.specs.Prelude.{◌≡◌, Some, map, slice_get, string_bytes, codes, IfOk, IfSome, IsTrue};
-ghost use Rattle.slotted_certificates.specs.Texts.{Adds, AddsFirst, words_of, are_of_word, is_of_word, is_word, spelled, text_of, token_text};
+ghost use Rattle.slotted_certificates.specs.Texts.{Adds, AddsFirst, bare_text, bare_text_of, blank_before, words_of, are_of_word, is_of_word, is_word, spelled, text_of, token_text};
 
-use crate::instances::is_done;
+use crate::instances::{first_of, is_done};
 use crate::tokens::Token;
 use std::alloc::AllocError;
 
@@ -77,7 +77,7 @@ pub(crate) fn push_word(
     }
 }
 
-/// The words by which the parts of a text are spelled. A value is spelled by a text with a blank in front.
+/// The words by which the parts of a text are spelled.
 #[derive(Clone, Copy)]
 pub struct Spelling<'a> {
     /// The words of operators.
@@ -114,18 +114,37 @@ fn push_close(out: &mut String) -> Result<bool, AllocError>
     Ok(true)
 }
 
+// Appends the text of a part, without a blank in front. Returns false if it has none.
+fn push_bare(out: &mut String, words: &Spelling, token: Token) -> Result<bool, AllocError>
+    ensures { IfOk result (λ b. IsTrue b → Adds (bare_text (words_of words.now) token)
+        (string_bytes out.old) (string_bytes out.new)) }
+{
+    match token {
+        Token::Leaf(operator) => push_word(out, "", words.operators, operator),
+        Token::Bracket(operator) => push_word(out, "(", words.operators, operator),
+        Token::Close => push_close(out),
+        Token::Slot(slot) => push_word(out, "$", words.slots, slot),
+        Token::Value(number) => push_value_text(out, words.values, number),
+    }
+}
+
+// Returns the blank in front of a part, if there is one.
+fn blank_before(token: Token) -> &'static str
+    ensures { result.now ≡ blank_before token }
+{
+    match token {
+        Token::Close => "",
+        _ => " ",
+    }
+}
+
 // Appends the text of a part. Returns false if it has none.
 fn push_token(out: &mut String, words: &Spelling, token: Token) -> Result<bool, AllocError>
     ensures { IfOk result (λ b. IsTrue b → Adds (token_text (words_of words.now) token)
         (string_bytes out.old) (string_bytes out.new)) }
 {
-    match token {
-        Token::Leaf(operator) => push_word(out, " ", words.operators, operator),
-        Token::Bracket(operator) => push_word(out, " (", words.operators, operator),
-        Token::Close => push_close(out),
-        Token::Slot(slot) => push_word(out, " $", words.slots, slot),
-        Token::Value(number) => push_value_text(out, words.values, number),
-    }
+    out.push_str(blank_before(token))?;
+    push_bare(out, words, token)
 }
 
 // Appends the text of the first part, and returns what stands behind the part.
@@ -156,4 +175,25 @@ pub fn push_text(out: &mut String, words: &Spelling, tokens: &[Token]) -> Result
         }
     }
     Ok(true)
+}
+
+/// Appends the text of parts, without a blank in front of the first one. Returns false if there are none, or a word is
+/// lacking.
+pub(crate) fn push_bare_text(
+    out: &mut String,
+    words: &Spelling,
+    tokens: &[Token],
+) -> Result<bool, AllocError>
+    ensures { IfOk result (λ b. IsTrue b → Adds (bare_text_of (words_of words.now) tokens.now)
+        (string_bytes out.old) (string_bytes out.new)) }
+{
+    match first_of(tokens) {
+        Some((token, behind)) => {
+            if !push_bare(out, words, token)? {
+                return Ok(false);
+            }
+            push_text(out, words, behind)
+        }
+        None => Ok(false),
+    }
 }

@@ -5,7 +5,7 @@ use Rattle.slotted_certificates.proofs.substitution.turn.Goals as goal
 pub returns-else-not-branch : goal.returns-else-not-branch
 returns-else-not-branch c = record {
   turns = turned-part c.args.part.now c.args.value.now c.args.row.now c.in-Term.behind.now c.args.out.now.items c.push_shifted.new.out.items c.args.depth
-    c.in-Term.ensures (c.in_ok-push_shifted-in-Term.ensures c.if-not-branch.false);
+      c.in-Term.ensures (c.in_ok-push_shifted-in-Term.ensures c.if-not-branch.false);
 }
 
 pub returns-in-Other : goal.returns-in-Other

@@ -11,7 +11,7 @@ returns-then-is_done c _ =
 pub loop-preserved : goal.loop-preserved
 loop-preserved c =
     steps-then c.args.part.now c.args.value.now c.args.pieces.now c.loop.rest.now c.in-Some.behind.now c.args.out.now.items c.loop.out.items c.turn.new.out.items c.loop.depth c.in-Some.next c.loop.invariant
-      (subst (λ o. IfSome o (λ s. StepsTo c.args.part.now c.args.value.now c.loop.depth c.loop.rest.now s.0 s.1.now c.loop.out.items c.turn.new.out.items)) c.in-Some.is c.in_ok-next.ensures.turns)
+    (subst (λ o. IfSome o (λ s. StepsTo c.args.part.now c.args.value.now c.loop.depth c.loop.rest.now s.0 s.1.now c.loop.out.items c.turn.new.out.items)) c.in-Some.is c.in_ok-next.ensures.turns)
 
 pub returns : goal.returns
 returns c t =
