@@ -97,9 +97,9 @@ fn is_text_of(
     )
 }
 
-// Returns the equation that a text claims. There is none if the text is not that of the claim, two slots have one word,
-// a side is no term, or a number is too large.
-fn claimed(
+/// Returns the equation that a text claims. There is none if the text is not that of the claim, two slots have one word,
+/// a side is no term, or a number is too large.
+pub fn claimed(
     alloc: Global,
     operators: &[String],
     binders: &[usize],

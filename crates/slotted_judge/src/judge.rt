@@ -1,11 +1,11 @@
 //! A judge of certificates: assertions, rules, claims, and the lines of their proofs.
-use crate::assertions::{Assertion, Assertions, Rule, find_instance};
-use crate::lines::{read_equation, read_rule, reason_of, whole_equation};
+use crate::known::{Known, Operators};
+use crate::lines::{read_assertion, read_claim, read_equation, read_rule};
 use crate::reader::Reader;
-use crate::reading::Operators;
 use crate::reasons::step_of;
 use crate::words::Words;
-use slotted_check::following::{Judgement, Step, judge_proof};
+use slotted_certificates::claims::{Claim, Given, Verdict, claimed, judge_claim};
+use slotted_check::following::Step;
 use slotted_check::steps::Equation;
 use std::alloc::{AllocError, Global};
 
@@ -18,25 +18,25 @@ pub struct Fault {
 
 /// What is said of a claim that had a proof.
 #[derive(Drop)]
-pub struct Verdict {
+pub struct Answer {
     pub claim: String,
     /// The first line that fails, if one does.
     pub fault: Option<Fault>,
 }
 
-// The lines of a proof with their steps, and the assertions and instances of rules that they stand on.
+// The lines of a proof with their steps, and which lines of the certificate give what they stand on.
 #[derive(Drop)]
 struct Proof {
-    given: Vec<Equation>,
+    given: Vec<Given>,
     lines: Vec<Equation>,
     steps: Vec<Step>,
 }
 
 // A claim, its proof up to the first line that cannot be read, and that line.
 #[derive(Drop)]
-struct Claim {
+struct Question {
     text: String,
-    equation: Equation,
+    claim: Claim,
     proof: Proof,
     fault: Option<Fault>,
 }
@@ -46,9 +46,8 @@ struct Claim {
 pub struct Judge {
     alloc: Global,
     operators: Operators,
-    assertions: Assertions,
-    rules: Vec<Rule>,
-    claim: Option<Claim>,
+    known: Known,
+    question: Option<Question>,
     /// How many lines were to say something, and could not be read.
     pub unread: usize,
 }
@@ -64,18 +63,26 @@ fn numbered_line<'a>(line: &'a str) -> Option<(usize, &'a str)> {
 }
 
 // Returns the first fault of a proof, of which a line past the judged ones may be at fault.
-fn first_fault(judgement: Judgement, count: usize, unread: Option<Fault>) -> Option<Fault> {
-    if let Judgement::Fails(line) = judgement {
+fn first_fault(verdict: Verdict, count: usize, unread: Option<Fault>) -> Option<Fault> {
+    if let Verdict::Fails(line) = verdict {
         let why = "it does not follow from the lines that it names";
         return Some(Fault { line, why });
     }
-    if unread.is_some() || judgement == Judgement::Checked {
+    if unread.is_some() || verdict == Verdict::Checked {
         return unread;
     }
     Some(Fault {
         line: count.saturating_sub(1),
         why: "it says something else than the claim",
     })
+}
+
+// Returns what a claim's text is behind its first word.
+fn sides_of<'a>(text: &'a str) -> &'a str {
+    match text.split_once(' ') {
+        Some((_, sides)) => sides,
+        None => "",
+    }
 }
 
 impl Judge {
@@ -87,35 +94,42 @@ impl Judge {
                 words: Words::new(alloc),
                 binders: Vec::new(alloc),
             },
-            assertions: Assertions::new(alloc),
-            rules: Vec::new(alloc),
-            claim: None,
+            known: Known::new(alloc),
+            question: None,
             unread: 0,
         }
     }
 
-    // Returns the assertion or the instance of a rule with a reason that an equation is.
-    fn given(&self, goal: &Equation, reason: &str) -> Result<Option<Equation>, AllocError> {
-        let asserted = self.assertions.find(self.alloc, goal, reason)?;
-        if asserted.is_some() {
-            return Ok(asserted);
-        }
-        find_instance(self.alloc, &self.rules, goal, reason)
-    }
-
-    // Returns the step of an equation that is given, which is added.
+    // Returns the step of an equation that a line with a reason gives.
     fn given_step(
         &self,
-        given: &mut Vec<Equation>,
+        given: &mut Vec<Given>,
         goal: &Equation,
         reason: &str,
     ) -> Result<Option<Step>, AllocError> {
-        let Some(equation) = self.given(goal, reason)? else {
-            return Ok(None);
-        };
-        let place = given.len();
-        given.push(equation)?;
-        Ok(Some(Step::Given(place)))
+        let found = self.known.find(self.alloc, &self.operators, goal, reason)?;
+        match found {
+            Some(found) => {
+                let place = given.len();
+                given.push(found)?;
+                Ok(Some(Step::Given(place)))
+            }
+            None => Ok(None),
+        }
+    }
+
+    // Returns the step of a line of a proof, or why there is none.
+    fn read_step(
+        &self,
+        given: &mut Vec<Given>,
+        goal: &Equation,
+        reason: &str,
+    ) -> Result<(Option<Step>, &'static str), AllocError> {
+        if reason == "None" || reason.starts_with("Some(") {
+            let why = "it was not asserted, and is no instance of a rule of that name";
+            return Ok((self.given_step(given, goal, reason)?, why));
+        }
+        Ok((step_of(self.alloc, reason)?, "there is no such step"))
     }
 
     // Reads a line of a proof, and returns why it is none, if so.
@@ -126,165 +140,167 @@ impl Judge {
         text: &str,
     ) -> Result<Option<&'static str>, AllocError> {
         let mut reader = Reader::new(text);
-        let Some(goal) = read_equation(self.alloc, &mut reader, &mut self.operators, "=")? else {
+        let Operators { words, binders } = &mut self.operators;
+        let Some(goal) = read_equation(self.alloc, &mut reader, words, binders, "=")? else {
             return Ok(Some("a side is no term"));
         };
         if number != proof.lines.len() {
             return Ok(Some("its number is not the next one"));
         }
+        reader.skip_spaces();
         if !reader.take("by ") {
             return Ok(Some("it has no reason"));
         }
-        let reason = reader.rest();
-        if reason == "None" || reason.starts_with("Some(") {
-            let Some(step) = self.given_step(&mut proof.given, &goal, reason)? else {
-                return Ok(Some("it was not asserted, and is no instance of a rule of that name"));
-            };
-            proof.steps.push(step)?;
-        } else {
-            let Some(step) = step_of(self.alloc, reason)? else {
-                return Ok(Some("there is no such step"));
-            };
-            proof.steps.push(step)?;
+        let (step, why) = self.read_step(&mut proof.given, &goal, reader.rest())?;
+        match step {
+            Some(step) => {
+                proof.steps.push(step)?;
+                proof.lines.push(goal)?;
+                Ok(None)
+            }
+            None => Ok(Some(why)),
         }
-        proof.lines.push(goal)?;
-        Ok(None)
     }
 
     // Takes a line of the proof of the claim.
     fn take_line(&mut self, number: usize, text: &str) -> Result<(), AllocError> {
-        let Some(mut claim) = self.claim.take() else {
+        let Some(mut question) = self.question.take() else {
             return Ok(());
         };
-        if claim.fault.is_none() {
-            let line = claim.proof.lines.len();
-            if let Some(why) = self.read_line(&mut claim.proof, number, text)? {
-                claim.fault = Some(Fault { line, why });
+        if question.fault.is_none() {
+            let line = question.proof.lines.len();
+            if let Some(why) = self.read_line(&mut question.proof, number, text)? {
+                question.fault = Some(Fault { line, why });
             }
         }
-        self.claim = Some(claim);
+        self.question = Some(question);
         Ok(())
     }
 
-    /// Ends the proof of the claim. Returns what is said of it, if it had a proof.
-    pub fn conclude(&mut self) -> Result<Option<Verdict>, AllocError> {
-        let Some(claim) = self.claim.take() else {
+    // Returns what is said of a claim and its proof.
+    fn verdict(&self, question: &Question) -> Result<Verdict, AllocError> {
+        judge_claim(
+            self.alloc,
+            &self.operators.words.texts,
+            &self.operators.binders,
+            &self.known.lines,
+            &question.proof.given,
+            question.text.as_str(),
+            &question.claim,
+            &question.proof.lines,
+            &question.proof.steps,
+        )
+    }
+
+    /// Ends the proof of the claim. Returns what is said of the claim, if it had a proof.
+    pub fn conclude(&mut self) -> Result<Option<Answer>, AllocError> {
+        let Some(question) = self.question.take() else {
             return Ok(None);
         };
-        let Claim {
-            text,
-            equation,
-            proof,
-            fault,
-        } = claim;
-        if proof.lines.is_empty() && fault.is_none() {
+        if question.proof.lines.is_empty() && question.fault.is_none() {
             return Ok(None);
         }
-        let judgement = judge_proof(
-            self.alloc,
-            &proof.given,
-            &proof.lines,
-            &proof.steps,
-            &equation,
-        )?;
-        Ok(Some(Verdict {
-            claim: text,
-            fault: first_fault(judgement, proof.lines.len(), fault),
+        let verdict = self.verdict(&question)?;
+        let Question {
+            text, proof, fault, ..
+        } = question;
+        Ok(Some(Answer {
+            claim: String::from_str(self.alloc, sides_of(&text))?,
+            fault: first_fault(verdict, proof.lines.len(), fault),
         }))
     }
 
-    fn count_unread(&mut self) {
-        self.unread = self.unread.saturating_add(1);
-    }
-
-    fn assert(&mut self, text: &str, sign: &str, reason: String) -> Result<(), AllocError> {
-        match whole_equation(self.alloc, text, &mut self.operators, sign)? {
-            Some(equation) => self
-                .assertions
-                .add(self.alloc, Assertion { reason, equation }),
-            None => {
-                self.count_unread();
-                Ok(())
-            }
+    // Counts a line that was to say something, if it could not be read.
+    fn count(&mut self, is_read: bool) {
+        if !is_read {
+            self.unread = self.unread.saturating_add(1);
         }
     }
 
-    fn assert_named(&mut self, text: &str) -> Result<(), AllocError> {
+    fn assert(&mut self, line: &str, name: Option<&str>, sides: &str) -> Result<bool, AllocError> {
+        let words = &mut self.operators.words;
+        match read_assertion(self.alloc, name, sides, words)? {
+            Some(assertion) => {
+                self.known
+                    .add_assertion(self.alloc, &self.operators, line, assertion)
+            }
+            None => Ok(false),
+        }
+    }
+
+    fn assert_named(&mut self, line: &str, text: &str) -> Result<bool, AllocError> {
         match text.split_once(": ") {
-            Some((name, sides)) => {
-                let reason = reason_of(self.alloc, name)?;
-                self.assert(sides, "=", reason)
-            }
-            None => {
-                self.count_unread();
-                Ok(())
-            }
+            Some((name, sides)) => self.assert(line, Some(name), sides),
+            None => Ok(false),
         }
     }
 
-    fn keep_rule(&mut self, text: &str) -> Result<(), AllocError> {
-        match read_rule(self.alloc, text, &mut self.operators)? {
-            Some(rule) => self.rules.push(rule)?,
-            None => self.count_unread(),
+    fn keep_rule(&mut self, line: &str, text: &str) -> Result<bool, AllocError> {
+        match read_rule(self.alloc, text, &mut self.operators.words)? {
+            Some(rule) => {
+                self.known.add_rule(self.alloc, line, rule)?;
+                Ok(true)
+            }
+            None => Ok(false),
         }
-        Ok(())
     }
 
-    fn begin_claim(&mut self, text: &str, sign: &str) -> Result<(), AllocError> {
+    fn begin_claim(&mut self, line: &str, asks: bool, sides: &str) -> Result<bool, AllocError> {
         let alloc = self.alloc;
-        let Some(equation) = whole_equation(alloc, text, &mut self.operators, sign)? else {
-            self.count_unread();
-            return Ok(());
+        let Some(claim) = read_claim(alloc, asks, sides, &mut self.operators.words)? else {
+            return Ok(false);
         };
+        let Operators { words, binders } = &self.operators;
+        if claimed(alloc, &words.texts, binders, line, &claim)?.is_none() {
+            return Ok(false);
+        }
         let proof = Proof {
             given: Vec::new(alloc),
             lines: Vec::new(alloc),
             steps: Vec::new(alloc),
         };
-        self.claim = Some(Claim {
-            text: String::from_str(alloc, text)?,
-            equation,
+        self.question = Some(Question {
+            text: String::from_str(alloc, line)?,
+            claim,
             proof,
             fault: None,
         });
-        Ok(())
+        Ok(true)
     }
 
-    fn bind(&mut self, word: &str) -> Result<(), AllocError> {
+    // Begins anew, with one operator more that binds.
+    fn bind(&mut self, word: &str) -> Result<bool, AllocError> {
         let operator = self.operators.words.number(self.alloc, word)?;
         self.operators.binders.push(operator)?;
-        Ok(())
+        self.forget();
+        Ok(true)
     }
 
     // Begins anew: no assertion, no rule.
     fn forget(&mut self) {
-        self.assertions = Assertions::new(self.alloc);
-        self.rules.clear();
+        self.known = Known::new(self.alloc);
     }
 
-    // Keeps what a line says that is no line of a proof.
-    fn keep(&mut self, line: &str) -> Result<(), AllocError> {
+    // Keeps what a line says that is no line of a proof. Returns false if the line cannot be read.
+    fn keep(&mut self, line: &str) -> Result<bool, AllocError> {
         let (word, text) = line.split_once(' ').unwrap_or((line, ""));
         match word {
             "binder" => self.bind(text.trim()),
-            "union" => {
-                let reason = String::from_str(self.alloc, "None")?;
-                self.assert(text, "==", reason)
-            }
-            "assert" => self.assert_named(text),
-            "rule" => self.keep_rule(text),
-            "explain" => self.begin_claim(text, "=="),
-            "ask" => self.begin_claim(text, "="),
+            "union" => self.assert(line, None, text),
+            "assert" => self.assert_named(line, text),
+            "rule" => self.keep_rule(line, text),
+            "explain" => self.begin_claim(line, false, text),
+            "ask" => self.begin_claim(line, true, text),
             "---" => {
                 self.forget();
-                Ok(())
+                Ok(true)
             }
-            _ => Ok(()),
+            _ => Ok(true),
         }
     }
 
     /// Reads a line. Returns what is said of the claim before it, if the line ends the proof of that claim.
-    pub fn read(&mut self, line: &str) -> Result<Option<Verdict>, AllocError> {
+    pub fn read(&mut self, line: &str) -> Result<Option<Answer>, AllocError> {
         if let Some((number, text)) = numbered_line(line) {
             self.take_line(number, text)?;
             return Ok(None);
@@ -292,8 +308,9 @@ impl Judge {
         if line.is_empty() || line == "yes" {
             return Ok(None);
         }
-        let verdict = self.conclude()?;
-        self.keep(line)?;
-        Ok(verdict)
+        let answer = self.conclude()?;
+        let is_read = self.keep(line)?;
+        self.count(is_read);
+        Ok(answer)
     }
 }

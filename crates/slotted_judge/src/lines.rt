@@ -1,27 +1,31 @@
-//! The lines of a certificate that say something: equations and rules.
-use crate::assertions::{Condition, Rule};
-use crate::codes::Code;
-use crate::instances::{Values, instance};
+//! The lines of a certificate that say something, by their parts.
 use crate::reader::Reader;
-use crate::reading::{Names, Operators, read_code};
+use crate::reading::{Names, read_tokens, renumber};
+use crate::words::Words;
+use slotted_certificates::claims::Claim;
+use slotted_certificates::given::Assertion;
+use slotted_certificates::instances::instance;
+use slotted_certificates::rules::{Condition, Rule};
+use slotted_certificates::tokens::Token;
 use slotted_check::steps::Equation;
 use std::alloc::{AllocError, Global};
 
-// Returns the two terms that are next, with a sign between them.
+// Returns the parts of the two terms that are next, with a sign between them.
 fn read_sides(
     alloc: Global,
     reader: &mut Reader,
-    operators: &mut Operators,
+    operators: &mut Words,
     names: &mut Names,
     sign: &str,
-) -> Result<Option<(Vec<Code>, Vec<Code>)>, AllocError> {
-    let Some(left) = read_code(alloc, reader, operators, names)? else {
+) -> Result<Option<(Vec<Token>, Vec<Token>)>, AllocError> {
+    let Some(left) = read_tokens(alloc, reader, operators, names)? else {
         return Ok(None);
     };
+    reader.skip_spaces();
     if !reader.take(sign) {
         return Ok(None);
     }
-    match read_code(alloc, reader, operators, names)? {
+    match read_tokens(alloc, reader, operators, names)? {
         Some(right) => Ok(Some((left, right))),
         None => Ok(None),
     }
@@ -31,33 +35,69 @@ fn read_sides(
 pub fn read_equation(
     alloc: Global,
     reader: &mut Reader,
-    operators: &mut Operators,
+    operators: &mut Words,
+    binders: &[usize],
     sign: &str,
 ) -> Result<Option<Equation>, AllocError> {
     let mut names = Names::new(alloc);
     let Some((left, right)) = read_sides(alloc, reader, operators, &mut names, sign)? else {
         return Ok(None);
     };
-    let none: Values = Vec::new(alloc);
-    let Some(left) = instance(alloc, &left, &none)? else {
+    let Some(left) = instance(alloc, binders, &left, &[])? else {
         return Ok(None);
     };
-    match instance(alloc, &right, &none)? {
+    match instance(alloc, binders, &right, &[])? {
         Some(right) => Ok(Some(Equation { left, right })),
         None => Ok(None),
     }
 }
 
-/// Returns the equation that a text is.
-pub fn whole_equation(
+/// Returns the assertion of a name and of the text of its sides.
+pub fn read_assertion(
     alloc: Global,
-    text: &str,
-    operators: &mut Operators,
-    sign: &str,
-) -> Result<Option<Equation>, AllocError> {
-    let mut reader = Reader::new(text);
-    let equation = read_equation(alloc, &mut reader, operators, sign)?;
-    Ok(if reader.is_done() { equation } else { None })
+    name: Option<&str>,
+    sides: &str,
+    operators: &mut Words,
+) -> Result<Option<Assertion>, AllocError> {
+    let mut reader = Reader::new(sides);
+    let mut names = Names::new(alloc);
+    let sign = if name.is_some() { "=" } else { "==" };
+    let Some((left, right)) = read_sides(alloc, &mut reader, operators, &mut names, sign)? else {
+        return Ok(None);
+    };
+    let name = match name {
+        Some(name) => Some(String::from_str(alloc, name)?),
+        None => None,
+    };
+    let slots = names.slots.texts;
+    Ok(Some(Assertion {
+        name,
+        slots,
+        left,
+        right,
+    }))
+}
+
+/// Returns the claim of a text of two sides.
+pub fn read_claim(
+    alloc: Global,
+    asks: bool,
+    sides: &str,
+    operators: &mut Words,
+) -> Result<Option<Claim>, AllocError> {
+    let mut reader = Reader::new(sides);
+    let mut names = Names::new(alloc);
+    let sign = if asks { "=" } else { "==" };
+    let Some((left, right)) = read_sides(alloc, &mut reader, operators, &mut names, sign)? else {
+        return Ok(None);
+    };
+    let slots = names.slots.texts;
+    Ok(Some(Claim {
+        asks,
+        slots,
+        left,
+        right,
+    }))
 }
 
 // Returns the condition that is next.
@@ -106,60 +146,62 @@ fn read_conditions(
     Ok(None)
 }
 
-/// Returns the reason that lines of a proof give for a name.
-pub fn reason_of(alloc: Global, name: &str) -> Result<String, AllocError> {
-    Ok(format!(in alloc; "{:?}", Some(name))?)
-}
-
-// Returns the reason for instances from the right to the left: the name has `<` behind it.
-fn reason_back_of(alloc: Global, name: &str) -> Result<String, AllocError> {
-    let name = format!(in alloc; "{name}<")?;
-    reason_of(alloc, name.as_str())
-}
-
-// Returns the rule of a name and the text behind it.
-fn read_named_rule(
+// Returns the rule of a name, its sides, its conditions, and the names of its line.
+fn made_rule(
     alloc: Global,
     name: &str,
-    sides: &str,
-    operators: &mut Operators,
-) -> Result<Option<Rule>, AllocError> {
-    let mut reader = Reader::new(sides);
-    let mut names = Names::new(alloc);
-    let goes_back = sides.contains(" <=> ");
-    let sign = if goes_back { "<=>" } else { "=>" };
-    let Some((left, right)) = read_sides(alloc, &mut reader, operators, &mut names, sign)? else {
-        return Ok(None);
-    };
-    let Some(conditions) = read_conditions(alloc, &mut reader, &mut names)? else {
-        return Ok(None);
-    };
-    let reason_back = if goes_back {
-        Some(reason_back_of(alloc, name)?)
-    } else {
-        None
-    };
-    let reason = reason_of(alloc, name)?;
-    let (slots, variables) = (names.slots.len(), names.variables.len());
-    Ok(Some(Rule {
-        reason,
-        reason_back,
-        left,
-        right,
+    goes_back: bool,
+    sides: (Vec<Token>, Vec<Token>),
+    conditions: Vec<Condition>,
+    names: Names,
+) -> Result<Rule, AllocError> {
+    let (mut left, mut right) = sides;
+    let Names {
         slots,
         variables,
+        mut puts,
+    } = names;
+    let count = variables.texts.len();
+    renumber(&mut left, count);
+    renumber(&mut right, count);
+    for k in 0..puts.len() {
+        let put = &mut puts[k];
+        renumber(&mut put.body, count);
+        renumber(&mut put.part, count);
+        renumber(&mut put.value, count);
+    }
+    Ok(Rule {
+        name: String::from_str(alloc, name)?,
+        goes_back,
+        slots: slots.texts,
+        variables: variables.texts,
+        left,
+        right,
+        puts,
         conditions,
-    }))
+    })
 }
 
 /// Returns the rule that a text behind `rule ` is.
 pub fn read_rule(
     alloc: Global,
     text: &str,
-    operators: &mut Operators,
+    operators: &mut Words,
 ) -> Result<Option<Rule>, AllocError> {
-    match text.split_once(": ") {
-        Some((name, sides)) => read_named_rule(alloc, name, sides, operators),
+    let Some((name, sides)) = text.split_once(": ") else {
+        return Ok(None);
+    };
+    let mut reader = Reader::new(sides);
+    let mut names = Names::new(alloc);
+    let goes_back = sides.contains(" <=> ");
+    let sign = if goes_back { "<=>" } else { "=>" };
+    let Some(sides) = read_sides(alloc, &mut reader, operators, &mut names, sign)? else {
+        return Ok(None);
+    };
+    match read_conditions(alloc, &mut reader, &mut names)? {
+        Some(conditions) => Ok(Some(made_rule(
+            alloc, name, goes_back, sides, conditions, names,
+        )?)),
         None => Ok(None),
     }
 }

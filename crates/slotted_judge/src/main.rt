@@ -1,25 +1,22 @@
 //! The program `slotted_judge`: checks the proofs of a certificate, and answers each claim that has one.
 #![tactic(auto)]
 
-mod assertions;
-mod codes;
-mod instances;
 mod judge;
+mod known;
 mod lines;
 mod matching;
 mod reader;
 mod reading;
 mod reasons;
-mod substitution;
 mod words;
 
 use anyhow::Result;
-use judge::{Judge, Verdict};
+use judge::{Answer, Judge};
 use std::process::ExitCode;
 
 // Writes what is said of a claim. Returns whether its proof was right.
-fn show(rt: &HostRuntime, verdict: Option<Verdict>) -> Result<bool> {
-    let Some(Verdict { claim, fault }) = verdict else {
+fn show(rt: &HostRuntime, answer: Option<Answer>) -> Result<bool> {
+    let Some(Answer { claim, fault }) = answer else {
         return Ok(true);
     };
     match fault {

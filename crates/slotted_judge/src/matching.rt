@@ -1,10 +1,9 @@
 //! Guesses of what the variables of a rule stand for. Nothing rests on them: what is guessed is put in and compared.
-use crate::codes::{Code, depth_after, free_name, name_under};
-use crate::instances::Values;
+use slotted_certificates::tokens::Token;
 use slotted_check::pieces::Piece;
 use std::alloc::{AllocError, Global};
 
-// Where the value of a variable was met: its place in the row, and the names of the binders around it.
+// Where the value of a variable was met: its place in the row, and the slots of the binders around it.
 #[derive(Drop)]
 struct Met {
     variable: usize,
@@ -38,33 +37,64 @@ fn end_of(row: &[Piece], begin: usize) -> usize {
     row.len()
 }
 
+// Returns how many scopes are open behind a piece.
+fn depth_after(piece: Piece, depth: usize) -> usize {
+    match piece {
+        Piece::Scope => depth.saturating_add(1),
+        Piece::Leave => depth.saturating_sub(1),
+        _ => depth,
+    }
+}
+
 impl Alignment {
-    // Goes past what stands in the row where a code stands in the pattern.
-    fn pass(&mut self, code: Code, row: &[Piece], piece: Piece) -> Result<(), AllocError> {
-        let mut next = self.at.saturating_add(1);
-        match (code, piece) {
-            (Code::Name(slot), Piece::Name(x)) => {
+    // Goes past the end of a term, and of the scope that the term stands in.
+    fn end_term(&mut self, row: &[Piece], end: usize) {
+        self.at = end;
+        if row.get(end).copied() == Some(Piece::Leave) {
+            let _ = self.scopes.pop();
+            self.at = end.saturating_add(1);
+        }
+    }
+
+    // Notes where a variable was met.
+    fn meet(&mut self, row: &[Piece], variable: usize) -> Result<(), AllocError> {
+        let (begin, end) = (self.at, end_of(row, self.at));
+        let scopes = self.scopes.clone()?;
+        self.met.push(Met {
+            variable,
+            begin,
+            end,
+            scopes,
+        })?;
+        self.end_term(row, end);
+        Ok(())
+    }
+
+    // Goes past a slot of the pattern.
+    fn pass_slot(&mut self, slot: usize, piece: Piece) -> Result<(), AllocError> {
+        match piece {
+            Piece::Scope => self.scopes.push(slot)?,
+            Piece::Name(x) => {
                 if let Some(free) = x.checked_sub(self.scopes.len()) {
                     self.known.push((free, slot))?;
                 }
             }
-            (Code::Bind(slot), Piece::Scope) => self.scopes.push(slot)?,
-            (Code::Leave, Piece::Leave) => {
-                let _ = self.scopes.pop();
-            }
-            (Code::Variable(variable), _) => {
-                next = end_of(row, self.at);
-                let scopes = self.scopes.clone()?;
-                self.met.push(Met {
-                    variable,
-                    begin: self.at,
-                    end: next,
-                    scopes,
-                })?;
-            }
-            (_, _) => (),
+            _ => (),
         }
-        self.at = next;
+        self.at = self.at.saturating_add(1);
+        Ok(())
+    }
+
+    // Goes past what stands in the row where a part stands in the pattern.
+    fn pass(&mut self, token: Token, row: &[Piece], piece: Piece) -> Result<(), AllocError> {
+        let next = self.at.saturating_add(1);
+        match token {
+            Token::Leaf(_) => self.end_term(row, next.saturating_add(1)),
+            Token::Bracket(_) => self.at = next,
+            Token::Close => self.end_term(row, next),
+            Token::Slot(slot) => self.pass_slot(slot, piece)?,
+            Token::Value(variable) => self.meet(row, variable)?,
+        }
         Ok(())
     }
 
@@ -86,6 +116,20 @@ impl Alignment {
         }
     }
 
+    // Returns a piece of a value that was met, under so many scopes of the value.
+    fn seen(&self, met: &Met, piece: Piece, depth: usize, slots: usize) -> Option<Piece> {
+        match piece {
+            Piece::Name(x) => match x.checked_sub(depth) {
+                Some(name) => match self.called(met, name, slots) {
+                    Some(called) => called.checked_add(depth).map(|n| Piece::Name(n)),
+                    None => None,
+                },
+                None => Some(piece),
+            },
+            _ => Some(piece),
+        }
+    }
+
     // Returns the value that was met.
     fn value(
         &self,
@@ -97,11 +141,7 @@ impl Alignment {
         let mut value = Vec::new(alloc);
         let mut depth = 0;
         for k in met.begin..met.end.min(row.len()) {
-            let seen = match free_name(row[k], depth) {
-                Some(name) => name_under(self.called(met, name, slots), depth),
-                None => Some(row[k]),
-            };
-            match seen {
+            match self.seen(met, row[k], depth, slots) {
                 Some(piece) => value.push(piece)?,
                 None => return Ok(None),
             }
@@ -128,34 +168,38 @@ impl Alignment {
 }
 
 // Walks a pattern and a row side by side.
-fn align(alloc: Global, codes: &[Code], row: &[Piece]) -> Result<Alignment, AllocError> {
+fn align(alloc: Global, tokens: &[Token], row: &[Piece]) -> Result<Alignment, AllocError> {
     let mut aligned = Alignment {
         at: 0,
         met: Vec::new(alloc),
         known: Vec::new(alloc),
         scopes: Vec::new(alloc),
     };
-    for code in codes {
+    for token in tokens {
         match row.get(aligned.at).copied() {
-            Some(piece) => aligned.pass(*code, row, piece)?,
+            Some(piece) => aligned.pass(*token, row, piece)?,
             None => break,
         }
     }
     Ok(aligned)
 }
 
-/// Returns values for the variables of a pattern of so many slots and variables, if it is to be this term.
+/// Returns values for the variables of a pattern of so many slots and variables, if it is to be this term. There are
+/// none if a variable was not met.
 pub fn guess(
     alloc: Global,
-    codes: &[Code],
+    tokens: &[Token],
     row: &[Piece],
     slots: usize,
     variables: usize,
-) -> Result<Values, AllocError> {
-    let met = align(alloc, codes, row)?;
+) -> Result<Option<Vec<Vec<Piece>>>, AllocError> {
+    let met = align(alloc, tokens, row)?;
     let mut values = Vec::new(alloc);
     for variable in 0..variables {
-        values.push(met.value_of(alloc, row, variable, slots)?)?;
+        match met.value_of(alloc, row, variable, slots)? {
+            Some(value) => values.push(value)?,
+            None => return Ok(None),
+        }
     }
-    Ok(values)
+    Ok(Some(values))
 }

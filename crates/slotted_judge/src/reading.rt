@@ -1,21 +1,19 @@
-//! Terms and patterns from their texts.
-use crate::codes::Code;
-use crate::reader::{Reader, ends_word};
+//! The parts of terms and patterns from their texts. Nothing rests on this: the texts are made again, and compared.
+use crate::reader::Reader;
 use crate::words::Words;
+use slotted_certificates::puts::Put;
+use slotted_certificates::tokens::Token;
 use std::alloc::{AllocError, Global};
 
-/// The numbers of operators, and those that bind.
-#[derive(Drop)]
-pub struct Operators {
-    pub words: Words,
-    pub binders: Vec<usize>,
-}
+/// The number of the first substitution in a line that is not read to its end.
+const FIRST_PUT: usize = 1 << 40;
 
-/// The numbers of slots and variables in a line.
+/// The numbers of slots and variables in a line, and the substitutions that were read in it.
 #[derive(Drop)]
 pub struct Names {
     pub slots: Words,
     pub variables: Words,
+    pub puts: Vec<Put>,
 }
 
 impl Names {
@@ -24,19 +22,30 @@ impl Names {
         Names {
             slots: Words::new(alloc),
             variables: Words::new(alloc),
+            puts: Vec::new(alloc),
         }
     }
 }
 
-// A part whose end was not read yet.
-#[derive(Clone, Copy)]
+/// Gives the substitutions among parts of a line their numbers: they stand behind so many variables.
+pub fn renumber(tokens: &mut Vec<Token>, variables: usize) {
+    for k in 0..tokens.len() {
+        if let Token::Value(number) = tokens[k]
+            && number >= FIRST_PUT
+        {
+            tokens[k] = Token::Value((number - FIRST_PUT).saturating_add(variables));
+        }
+    }
+}
+
+// A part whose end was not read yet, and where it begins.
+#[derive(Drop)]
 enum Open {
-    // A bracket: where its code begins, whether its operator binds, and whether the child that is read is bound in.
-    Bracket(usize, bool, bool),
-    // `b[`, where the code of b begins.
-    Part(usize),
-    // `b[x :=`.
-    Value(usize),
+    Bracket(usize),
+    // `b[`, with b.
+    Part(usize, Vec<Token>),
+    // `b[x :=`, with b and x.
+    Value(usize, Vec<Token>, Vec<Token>),
 }
 
 // What follows a piece of text.
@@ -47,104 +56,22 @@ enum Next {
     Fails,
 }
 
-// The code of what was read, the parts that are open, and where the part begins that has just ended.
+// The parts that were read, those that are open, and where the term begins that has just ended.
 #[derive(Drop)]
 struct Reading {
-    codes: Vec<Code>,
+    tokens: Vec<Token>,
     open: Vec<Open>,
     ended: Option<usize>,
 }
 
-impl Reading {
-    // Begins `b[`, where b has just ended.
-    fn begin_substitution(&mut self, begin: usize) -> Result<Next, AllocError> {
-        self.codes.insert(begin.min(self.codes.len()), Code::Begin)?;
-        self.codes.push(Code::Begin)?;
-        self.open.push(Open::Part(begin))?;
-        Ok(Next::GoesOn)
+// Returns the last parts, from a place on, and takes them away.
+fn split_off(alloc: Global, tokens: &mut Vec<Token>, start: usize) -> Result<Vec<Token>, AllocError> {
+    let mut last = Vec::new(alloc);
+    for k in start..tokens.len() {
+        last.push(tokens[k])?;
     }
-
-    // Goes on behind a part, which begins at a place of the code.
-    fn end_part(&mut self, reader: &mut Reader, begin: usize) -> Result<Next, AllocError> {
-        if reader.take("[") {
-            return self.begin_substitution(begin);
-        }
-        match self.open.pop() {
-            None => return Ok(Next::Ends),
-            Some(Open::Bracket(start, binds, bound)) => {
-                if bound {
-                    self.codes.push(Code::Leave)?;
-                }
-                self.open.push(Open::Bracket(start, binds, false))?;
-            }
-            Some(Open::Part(start)) => {
-                if !reader.take(":=") {
-                    return Ok(Next::Fails);
-                }
-                self.codes.push(Code::Begin)?;
-                self.open.push(Open::Value(start))?;
-            }
-            Some(Open::Value(start)) => {
-                if !reader.take("]") {
-                    return Ok(Next::Fails);
-                }
-                self.codes.push(Code::Put)?;
-                self.ended = Some(start);
-            }
-        }
-        Ok(Next::GoesOn)
-    }
-
-    // Ends a bracket.
-    fn close(&mut self) -> Result<Next, AllocError> {
-        match self.open.pop() {
-            Some(Open::Bracket(start, _, false)) => {
-                self.codes.push(Code::Close)?;
-                self.ended = Some(start);
-                Ok(Next::GoesOn)
-            }
-            _ => Ok(Next::Fails),
-        }
-    }
-
-    // Reads a slot: it binds if its operator does, and a child is next.
-    fn slot(&mut self, reader: &mut Reader, slot: usize) -> Result<Next, AllocError> {
-        reader.skip_spaces();
-        let is_before_child = reader.peek() != Some(b'$') && reader.peek() != Some(b')');
-        match self.open.pop() {
-            Some(Open::Bracket(start, true, false)) if is_before_child => {
-                self.codes.push(Code::Bind(slot))?;
-                self.open.push(Open::Bracket(start, true, true))?;
-                Ok(Next::GoesOn)
-            }
-            Some(Open::Bracket(start, binds, false)) => {
-                self.codes.push(Code::Name(slot))?;
-                self.open.push(Open::Bracket(start, binds, false))?;
-                Ok(Next::GoesOn)
-            }
-            _ => Ok(Next::Fails),
-        }
-    }
-
-    fn open_bracket(&mut self, operator: usize, binds: bool) -> Result<Next, AllocError> {
-        self.open
-            .push(Open::Bracket(self.codes.len(), binds, false))?;
-        self.codes.push(Code::Head(operator))?;
-        Ok(Next::GoesOn)
-    }
-
-    fn variable(&mut self, variable: usize) -> Result<Next, AllocError> {
-        self.ended = Some(self.codes.len());
-        self.codes.push(Code::Variable(variable))?;
-        Ok(Next::GoesOn)
-    }
-
-    fn leaf(&mut self, operator: usize) -> Result<Next, AllocError> {
-        self.ended = Some(self.codes.len());
-        self.codes.push(Code::Head(operator))?;
-        self.codes.push(Code::Close)?;
-        Ok(Next::GoesOn)
-    }
+    tokens.truncate(start);
+    Ok(last)
 }
 
 // Returns the number of the word that is next, if it is not empty.
@@ -160,64 +87,175 @@ fn numbered(
     Ok(Some(words.number(alloc, word)?))
 }
 
+impl Reading {
+    // Goes on behind `[x`: the value is next.
+    fn begin_value(
+        &mut self,
+        alloc: Global,
+        reader: &mut Reader,
+        start: usize,
+        body: Vec<Token>,
+    ) -> Result<Next, AllocError> {
+        reader.skip_spaces();
+        if !reader.take(":=") {
+            return Ok(Next::Fails);
+        }
+        let part = split_off(alloc, &mut self.tokens, start)?;
+        self.open.push(Open::Value(start, body, part))?;
+        Ok(Next::GoesOn)
+    }
+
+    // Ends a substitution.
+    fn end_put(
+        &mut self,
+        alloc: Global,
+        reader: &mut Reader,
+        names: &mut Names,
+        start: usize,
+        put: (Vec<Token>, Vec<Token>),
+    ) -> Result<Next, AllocError> {
+        if !reader.take("]") {
+            return Ok(Next::Fails);
+        }
+        let value = split_off(alloc, &mut self.tokens, start)?;
+        let (body, part) = put;
+        let number = names.puts.len().saturating_add(FIRST_PUT);
+        names.puts.push(Put { body, part, value })?;
+        self.tokens.push(Token::Value(number))?;
+        self.ended = Some(start);
+        Ok(Next::GoesOn)
+    }
+
+    // Goes on behind a term, which begins at a place.
+    fn end_term(
+        &mut self,
+        alloc: Global,
+        reader: &mut Reader,
+        names: &mut Names,
+        begin: usize,
+    ) -> Result<Next, AllocError> {
+        if reader.take("[") {
+            let body = split_off(alloc, &mut self.tokens, begin)?;
+            self.open.push(Open::Part(begin, body))?;
+            return Ok(Next::GoesOn);
+        }
+        match self.open.pop() {
+            None => Ok(Next::Ends),
+            Some(Open::Bracket(start)) => {
+                self.open.push(Open::Bracket(start))?;
+                Ok(Next::GoesOn)
+            }
+            Some(Open::Part(start, body)) => self.begin_value(alloc, reader, start, body),
+            Some(Open::Value(start, body, part)) => {
+                self.end_put(alloc, reader, names, start, (body, part))
+            }
+        }
+    }
+
+    // Ends a bracket.
+    fn close(&mut self) -> Result<Next, AllocError> {
+        match self.open.pop() {
+            Some(Open::Bracket(start)) => {
+                self.tokens.push(Token::Close)?;
+                self.ended = Some(start);
+                Ok(Next::GoesOn)
+            }
+            _ => Ok(Next::Fails),
+        }
+    }
+
+    // Adds a part that is a term by itself.
+    fn add_term(&mut self, token: Token) -> Result<Next, AllocError> {
+        self.ended = Some(self.tokens.len());
+        self.tokens.push(token)?;
+        Ok(Next::GoesOn)
+    }
+
+    // Begins the bracket of an operator.
+    fn open_bracket(&mut self, operator: usize) -> Result<Next, AllocError> {
+        self.open.push(Open::Bracket(self.tokens.len()))?;
+        self.tokens.push(Token::Bracket(operator))?;
+        Ok(Next::GoesOn)
+    }
+}
+
+// Reads a slot.
+fn read_slot(
+    alloc: Global,
+    reading: &mut Reading,
+    reader: &mut Reader,
+    names: &mut Names,
+) -> Result<Next, AllocError> {
+    match numbered(alloc, &mut names.slots, reader)? {
+        Some(slot) => {
+            reading.tokens.push(Token::Slot(slot))?;
+            Ok(Next::GoesOn)
+        }
+        None => Ok(Next::Fails),
+    }
+}
+
+// Reads a variable.
+fn read_variable(
+    alloc: Global,
+    reading: &mut Reading,
+    reader: &mut Reader,
+    names: &mut Names,
+) -> Result<Next, AllocError> {
+    match numbered(alloc, &mut names.variables, reader)? {
+        Some(variable) => reading.add_term(Token::Value(variable)),
+        None => Ok(Next::Fails),
+    }
+}
+
 // Begins the part that is next.
 fn begin_part(
     alloc: Global,
     reading: &mut Reading,
     reader: &mut Reader,
-    operators: &mut Operators,
+    operators: &mut Words,
     names: &mut Names,
 ) -> Result<Next, AllocError> {
     if reader.take(")") {
         return reading.close();
     }
     if reader.take("$") {
-        return match numbered(alloc, &mut names.slots, reader)? {
-            Some(slot) => reading.slot(reader, slot),
-            None => Ok(Next::Fails),
-        };
+        return read_slot(alloc, reading, reader, names);
     }
     if reader.take("?") {
-        return match numbered(alloc, &mut names.variables, reader)? {
-            Some(variable) => reading.variable(variable),
-            None => Ok(Next::Fails),
-        };
+        return read_variable(alloc, reading, reader, names);
     }
     let is_bracket = reader.take("(");
-    if is_bracket {
-        reader.skip_spaces();
-    }
-    match numbered(alloc, &mut operators.words, reader)? {
-        Some(operator) if is_bracket => reading.open_bracket(
-            operator,
-            operators.binders.contains(&operator),
-        ),
-        Some(operator) => reading.leaf(operator),
+    match numbered(alloc, operators, reader)? {
+        Some(operator) if is_bracket => reading.open_bracket(operator),
+        Some(operator) => reading.add_term(Token::Leaf(operator)),
         None => Ok(Next::Fails),
     }
 }
 
-/// Returns the code of the term or pattern that is next, if there is one.
-pub fn read_code(
+/// Returns the parts of the term or pattern that is next, if there is one.
+pub fn read_tokens(
     alloc: Global,
     reader: &mut Reader,
-    operators: &mut Operators,
+    operators: &mut Words,
     names: &mut Names,
-) -> Result<Option<Vec<Code>>, AllocError> {
+) -> Result<Option<Vec<Token>>, AllocError> {
     let mut reading = Reading {
-        codes: Vec::new(alloc),
+        tokens: Vec::new(alloc),
         open: Vec::new(alloc),
         ended: None,
     };
     for _ in 0..usize::MAX {
-        reader.skip_spaces();
         let next = match reading.ended.take() {
-            Some(begin) => reading.end_part(reader, begin)?,
-            None => begin_part(alloc, &mut reading, reader, operators, names)?,
+            Some(begin) => reading.end_term(alloc, reader, names, begin)?,
+            None => {
+                reader.skip_spaces();
+                begin_part(alloc, &mut reading, reader, operators, names)?
+            }
         };
         match next {
             Next::GoesOn => (),
-            Next::Ends => return Ok(Some(reading.codes)),
+            Next::Ends => return Ok(Some(reading.tokens)),
             Next::Fails => return Ok(None),
         }
     }

@@ -5,6 +5,8 @@ use std::collections::HashMap;
 /// Texts, numbered in the order in which they first came.
 #[derive(Drop)]
 pub struct Words {
+    /// The texts by their numbers.
+    pub texts: Vec<String>,
     numbers: HashMap<String, usize>,
 }
 
@@ -12,13 +14,9 @@ impl Words {
     /// Returns the list that has no text.
     pub fn new(alloc: Global) -> Self {
         Words {
+            texts: Vec::new(alloc),
             numbers: HashMap::new(alloc),
         }
-    }
-
-    /// Returns how many texts there are.
-    pub fn len(&self) -> usize {
-        self.numbers.len()
     }
 
     /// Returns the number of a text, which is added if it has none.
@@ -26,7 +24,8 @@ impl Words {
         if let Some(number) = self.numbers.get(text) {
             return Ok(*number);
         }
-        let number = self.numbers.len();
+        let number = self.texts.len();
+        self.texts.push(String::from_str(alloc, text)?)?;
         self.numbers.insert(String::from_str(alloc, text)?, number)?;
         Ok(number)
     }
