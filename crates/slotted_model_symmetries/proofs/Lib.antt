@@ -1,0 +1,10 @@
+pub mod Soundness
+pub mod Rows
+pub mod Trees
+pub mod Derivable
+pub mod Chains
+pub mod Staying
+pub mod Tables
+pub mod Laws
+pub mod ParentExamples
+pub mod TableExamples

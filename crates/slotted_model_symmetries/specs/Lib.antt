@@ -1,0 +1,5 @@
+pub mod Deciding
+pub mod Chains
+pub mod Tables
+pub mod DecidingClaims
+pub mod GroupClaims
