@@ -1,7 +1,6 @@
--- The laws of a binder over a child with a slot after it, and of a slot before that.
+-- The laws of a binder over a child with a slot after it.
 --     tail_form x c y     a binder x over the child c, and the slot y after its scope
 --     tails_equal         whether two such are equal, field by field
---     tri_form v x c y    the slot v before that
 use Rattle.std.specs.Prelude.{◌≡◌, ◌↔◌, ◌&&◌, ℕ, Bool, IsTrue, length, nat_eq, refl}
 use Rattle.std.specs.Cmp.Lexicographic.{pointwise}
 use Rattle.slotted_slots.specs.declared.types.AppliedId.{AppliedId}
@@ -15,18 +14,12 @@ scope_form x c = bind_form x (child_form c.id.0 c.m)
 abbrev pub tail_form : ℕ → AppliedId → ℕ → Form
 tail_form x c y = join_form (scope_form x c) (slot_form y)
 
-abbrev pub tri_form : ℕ → ℕ → AppliedId → ℕ → Form
-tri_form v x c y = join_form (slot_form v) (tail_form x c y)
-
 -- as many names as places
 scope_fits : (x : ℕ) (c : AppliedId) → length (scope_form x c).names ≡ length (scopes (scope_form x c).tree)
 scope_fits x c = bind_form_fits x (child_form c.id.0 c.m) (child_form_fits c.m)
 
 pub tail_fits : (x : ℕ) (c : AppliedId) (y : ℕ) → length (tail_form x c y).names ≡ length (scopes (tail_form x c y).tree)
 tail_fits x c y = join_form_fits (scope_form x c) (slot_form y) (scope_fits x c) refl
-
-pub tri_fits : (v x : ℕ) (c : AppliedId) (y : ℕ) → length (tri_form v x c y).names ≡ length (scopes (tri_form v x c y).tree)
-tri_fits v x c y = join_form_fits (slot_form v) (tail_form x c y) refl (tail_fits x c y)
 
 -- field by field
 abbrev pub scopes_equal : ℕ → AppliedId → ℕ → AppliedId → Bool
@@ -54,9 +47,3 @@ pub tail_same : (x : ℕ) (c : AppliedId) (y z : ℕ) (d : AppliedId) (w : ℕ) 
 tail_same x c y z d w =
     join_form_same (scopes_equal x c z d) (nat_eq y w) (scope_form x c) (slot_form y) (scope_form z d) (slot_form w) (scope_fits x c) (scope_fits z d)
     (scopes_alike x c z d) (slots_alike y w) (scope_same x c z d) (slot_same y w)
-
-pub tri_same : (u x : ℕ) (c : AppliedId) (y v z : ℕ) (d : AppliedId) (w : ℕ) → IsTrue (nat_eq u v && tails_equal x c y z d w) ↔
-    tri_form u x c y ≡ tri_form v z d w
-tri_same u x c y v z d w =
-    join_form_same (nat_eq u v) (tails_equal x c y z d w) (slot_form u) (tail_form x c y) (slot_form v) (tail_form z d w) refl refl
-    (slots_alike u v) (tails_alike x c y z d w) (slot_same u v) (tail_same x c y z d w)

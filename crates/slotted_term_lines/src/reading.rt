@@ -1,8 +1,16 @@
 //! The texts of rows: slots as `$8`, children as `#7:8,9`, maps as `$8->$5,$9->$6`, nodes as their elements.
+ghost use Rattle.std.specs.Prelude.{IfOk};
+ghost use Rattle.slotted_theory.specs.FiniteMaps.{IsInjectiveMap};
+
 use slotted_languages::{Language, LanguageChildren};
+use slotted_proofs::Equation;
 use slotted_slots::{AppliedId, Error, Id, Slot, SlotMap, SlotTable, SyntaxElem};
-use slotted_small::Small;
 use std::alloc::Global;
+
+// Returns the texts before and behind a sign. Without the sign the second one is empty.
+pub(crate) fn parted<'a>(text: &'a str, sign: &str) -> (&'a str, &'a str) {
+    text.split_once(sign).unwrap_or((text, ""))
+}
 
 // Returns the slot of a name, which may stand after a `$`.
 fn slot(table: &mut SlotTable, name: &str) -> Result<Slot, Error> {
@@ -30,7 +38,7 @@ pub(crate) fn map_of(alloc: Global, table: &mut SlotTable, text: &str) -> Result
 
 // Returns a child written `id` or `id:x,y`, with a map as above.
 pub(crate) fn child(alloc: Global, table: &mut SlotTable, text: &str) -> Result<AppliedId, Error> {
-    let (id, slots) = text.split_once(':').unwrap_or((text, ""));
+    let (id, slots) = parted(text, ":");
     let m = map_of(alloc, table, slots)?;
     Ok(AppliedId {
         id: Id(id.parse().unwrap_or(0)),
@@ -38,8 +46,35 @@ pub(crate) fn child(alloc: Global, table: &mut SlotTable, text: &str) -> Result<
     })
 }
 
+// Returns the child of a text in which no slot stands twice.
+pub(crate) fn applied(alloc: Global, table: &mut SlotTable, text: &str) -> Result<AppliedId, Error>
+    ensures { IfOk result (λ a. IsInjectiveMap a.m) }
+{
+    let applied = child(alloc, table, text)?;
+    if applied.m.is_bijection() {
+        Ok(applied)
+    } else {
+        Err(Error::NotEqual)
+    }
+}
+
+// Returns the equation of two children with ` = ` between them.
+pub(crate) fn equation(alloc: Global, table: &mut SlotTable, text: &str) -> Result<Equation, Error>
+    ensures left { IfOk result (λ e. IsInjectiveMap e.l.m) }
+    ensures right { IfOk result (λ e. IsInjectiveMap e.r.m) }
+{
+    let (l, r) = parted(text, " = ");
+    let l = applied(alloc, table, l)?;
+    let r = applied(alloc, table, r)?;
+    Ok(Equation { l, r })
+}
+
 // Returns an element: `$n` is a slot, `#` and a child a child, all else a text.
-fn element(alloc: Global, table: &mut SlotTable, word: &str) -> Result<SyntaxElem, Error> {
+pub(crate) fn element(
+    alloc: Global,
+    table: &mut SlotTable,
+    word: &str,
+) -> Result<SyntaxElem, Error> {
     if word.starts_with('$') {
         Ok(SyntaxElem::Slot(slot(table, word)?))
     } else if let Some(text) = word.strip_prefix('#') {
@@ -50,7 +85,11 @@ fn element(alloc: Global, table: &mut SlotTable, word: &str) -> Result<SyntaxEle
 }
 
 // Returns the elements of a text, parted by spaces.
-fn elements_of(alloc: Global, table: &mut SlotTable, text: &str) -> Result<Vec<SyntaxElem>, Error> {
+pub(crate) fn elements_of(
+    alloc: Global,
+    table: &mut SlotTable,
+    text: &str,
+) -> Result<Vec<SyntaxElem>, Error> {
     let mut elements = Vec::new(alloc);
     for word in text.split_whitespace() {
         elements.push(element(alloc, table, word)?)?;
@@ -67,18 +106,11 @@ pub(crate) fn read<L: LanguageChildren>(
     L::from_syntax(alloc, elements_of(alloc, table, text)?.as_slice())
 }
 
-// A language whose nodes are made from their elements.
-pub(crate) trait Made: Language {
-    fn made(alloc: Global, elements: &[SyntaxElem]) -> Result<Self, Error>;
-}
-
-impl Made for Small {
-    fn made(alloc: Global, elements: &[SyntaxElem]) -> Result<Self, Error> {
-        Small::from_syntax(alloc, elements)?.ok_or(Error::NotATerm)
-    }
-}
-
 // Returns the node of a text.
-pub(crate) fn node<L: Made>(alloc: Global, table: &mut SlotTable, text: &str) -> Result<L, Error> {
-    L::made(alloc, elements_of(alloc, table, text)?.as_slice())
+pub(crate) fn node<L: Language>(
+    alloc: Global,
+    table: &mut SlotTable,
+    text: &str,
+) -> Result<L, Error> {
+    read::<L>(alloc, table, text)?.ok_or(Error::NotATerm)
 }

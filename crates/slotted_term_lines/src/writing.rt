@@ -3,7 +3,22 @@ use slotted_languages::Language;
 use slotted_slots::{
     AppliedId, Error, Id, Show, Slot, SlotMap, SlotTable, SmallHashSet, SyntaxElem,
 };
-use std::alloc::Global;
+use std::alloc::{AllocError, Global};
+use std::fmt::Debug;
+
+// The derived form of `AppliedId::null`.
+const NULL: &str = "AppliedId { id: id0, m: SlotMap { pairs: [] } }";
+
+// Writes the derived form of a value, with `_` for each null id.
+pub(crate) fn debugged<T: Debug>(
+    alloc: Global,
+    value: &T,
+    text: &mut String,
+) -> Result<(), AllocError> {
+    let derived = format!(in alloc; "{value:?}")?;
+    let derived = derived.replace(alloc, NULL, "_")?;
+    text.push_str(&derived)
+}
 
 pub(crate) fn write_test(holds: Result<bool, Error>, text: &mut String) -> Result<(), Error> {
     Ok(text.push_str(if holds? { "yes" } else { "no" })?)

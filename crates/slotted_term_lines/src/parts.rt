@@ -2,11 +2,12 @@
 ghost use Rattle.std.specs.Prelude.{◌<◌, length};
 ghost use Rattle.slotted_nodes.specs.Form.{IsSmall};
 
-use crate::reading::{child, read};
+use crate::reading::{element, parted, read};
 use crate::writing::write_elements;
 use slotted_languages::{Bind, LanguageChildren, ReadBack, Symbol};
 use slotted_slots::{AppliedId, Error, Slot, SlotTable, SyntaxElem};
 use slotted_small::Small;
+use slotted_symbols::SymbolLang;
 use std::alloc::Global;
 
 // Returns whether the elements write this part.
@@ -78,61 +79,81 @@ fn write_part<L: ReadBack>(
     write_places(part, text)
 }
 
-// Puts another slot at the first place, and another child in place of the first one.
-fn rewrite<L: LanguageChildren>(
+// Puts a slot at a place, if the part has the place.
+fn put_slot<L: LanguageChildren>(part: &mut L, i: usize, slot: Slot) {
+    if i < part.slot_count() {
+        part.set_slot(i, slot);
+    }
+}
+
+// Puts a slot or a child in its place, for `place=$5` or `place=#7:8`.
+fn put<L: LanguageChildren>(
     alloc: Global,
     part: &mut L,
+    words: &str,
     table: &mut SlotTable,
 ) -> Result<(), Error> {
-    let count = part.slot_count();
-    if count > 0 && count < 1 << 30 {
-        part.set_slot(0, Slot::numeric_at(9));
-    }
-    if part.get_applied_id(0).is_some() {
-        part.set_applied_id(0, child(alloc, table, "8:2")?);
+    let (place, value) = parted(words, "=");
+    let place = place.parse::<usize>().unwrap_or(0);
+    match element(alloc, table, value)? {
+        SyntaxElem::Slot(slot) => put_slot(part, place, slot),
+        SyntaxElem::AppliedId(child) if part.get_applied_id(place).is_some() => {
+            part.set_applied_id(place, child);
+        }
+        _ => {}
     }
     Ok(())
 }
 
-// Writes a copy of the part of the words, which may be rewritten first, or `none`.
+// Puts slots and children in their places, one after another.
+fn rewrite<L: LanguageChildren>(
+    alloc: Global,
+    part: &mut L,
+    words: &str,
+    table: &mut SlotTable,
+) -> Result<(), Error> {
+    for words in words.split_whitespace() {
+        put(alloc, part, words, table)?;
+    }
+    Ok(())
+}
+
+// Writes a copy of the part of the words, in which slots and children may be replaced first, or `none`.
 fn part<L: ReadBack>(
     alloc: Global,
-    call: &str,
     words: &str,
     table: &mut SlotTable,
     text: &mut String,
 ) -> Result<(), Error> {
+    let (words, others) = parted(words, " by ");
     let Some(mut part) = read::<L>(alloc, table, words)? else {
         return Ok(text.push_str("none")?);
     };
-    if call == "rewrite" {
-        rewrite(alloc, &mut part, table)?;
-    }
+    rewrite(alloc, &mut part, others, table)?;
     write_part(alloc, &part.copy(alloc)?, table, text)
 }
 
 // Writes the part of an integer type.
 fn write_number(
     alloc: Global,
-    call: &str,
     kind: &str,
     words: &str,
     table: &mut SlotTable,
     text: &mut String,
 ) -> Result<(), Error> {
     match kind {
-        "u8" => part::<u8>(alloc, call, words, table, text),
-        "u16" => part::<u16>(alloc, call, words, table, text),
-        "u32" => part::<u32>(alloc, call, words, table, text),
-        "u64" => part::<u64>(alloc, call, words, table, text),
-        "u128" => part::<u128>(alloc, call, words, table, text),
-        "usize" => part::<usize>(alloc, call, words, table, text),
-        "i8" => part::<i8>(alloc, call, words, table, text),
-        "i16" => part::<i16>(alloc, call, words, table, text),
-        "i32" => part::<i32>(alloc, call, words, table, text),
-        "i64" => part::<i64>(alloc, call, words, table, text),
-        "i128" => part::<i128>(alloc, call, words, table, text),
-        "isize" => part::<isize>(alloc, call, words, table, text),
+        "u8" => part::<u8>(alloc, words, table, text),
+        "u16" => part::<u16>(alloc, words, table, text),
+        "u32" => part::<u32>(alloc, words, table, text),
+        "u64" => part::<u64>(alloc, words, table, text),
+        "u128" => part::<u128>(alloc, words, table, text),
+        "usize" => part::<usize>(alloc, words, table, text),
+        "i8" => part::<i8>(alloc, words, table, text),
+        "i16" => part::<i16>(alloc, words, table, text),
+        "i32" => part::<i32>(alloc, words, table, text),
+        "i64" => part::<i64>(alloc, words, table, text),
+        "i128" => part::<i128>(alloc, words, table, text),
+        "isize" => part::<isize>(alloc, words, table, text),
         _ => Ok(text.push_str("no type")?),
     }
 }
@@ -140,22 +161,22 @@ fn write_number(
 // Writes the part of a type of the words.
 pub(crate) fn write_kind(
     alloc: Global,
-    call: &str,
     kind: &str,
     words: &str,
     table: &mut SlotTable,
     text: &mut String,
 ) -> Result<(), Error> {
     match kind {
-        "Small" => part::<Small>(alloc, call, words, table, text),
-        "Slot" => part::<Slot>(alloc, call, words, table, text),
-        "AppliedId" => part::<AppliedId>(alloc, call, words, table, text),
-        "Bind" => part::<Bind<AppliedId>>(alloc, call, words, table, text),
-        "Bind2" => part::<Bind<Bind<AppliedId>>>(alloc, call, words, table, text),
-        "Symbol" => part::<Symbol>(alloc, call, words, table, text),
-        "bool" => part::<bool>(alloc, call, words, table, text),
-        "char" => part::<char>(alloc, call, words, table, text),
-        _ => write_number(alloc, call, kind, words, table, text),
+        "Small" => part::<Small>(alloc, words, table, text),
+        "Slot" => part::<Slot>(alloc, words, table, text),
+        "AppliedId" => part::<AppliedId>(alloc, words, table, text),
+        "Bind" => part::<Bind<AppliedId>>(alloc, words, table, text),
+        "Bind2" => part::<Bind<Bind<AppliedId>>>(alloc, words, table, text),
+        "SymbolLang" => part::<SymbolLang>(alloc, words, table, text),
+        "Symbol" => part::<Symbol>(alloc, words, table, text),
+        "bool" => part::<bool>(alloc, words, table, text),
+        "char" => part::<char>(alloc, words, table, text),
+        _ => write_number(alloc, kind, words, table, text),
     }
 }
 
@@ -165,7 +186,7 @@ pub(crate) fn are_equal<L: LanguageChildren>(
     words: &str,
     table: &mut SlotTable,
 ) -> Result<bool, Error> {
-    let (one, other) = words.split_once(" = ").unwrap_or((words, ""));
+    let (one, other) = parted(words, " = ");
     let one = read::<L>(alloc, table, one)?;
     let other = read::<L>(alloc, table, other)?;
     Ok(one == other)
@@ -173,7 +194,7 @@ pub(crate) fn are_equal<L: LanguageChildren>(
 
 // Returns whether the symbols of the words beside a `<` are in this order.
 pub(crate) fn are_ordered(alloc: Global, words: &str) -> Result<bool, Error> {
-    let (one, other) = words.split_once(" < ").unwrap_or((words, ""));
+    let (one, other) = parted(words, " < ");
     let one = Symbol::from_text(alloc, one)?;
     let other = Symbol::from_text(alloc, other)?;
     Ok(one < other)

@@ -1,12 +1,11 @@
-//! Two languages with slots beside and after a scope, as no operator of `Small` has them. They are neither written nor
-//! read: their nodes are made from their elements in order.
+//! A language whose scopes end at different places, as those of no operator of `Small` do. It is neither written nor
+//! read: its nodes are made from their elements in order.
 ghost use Rattle.std.specs.Prelude.{[], None};
 ghost use Rattle.std.proofs.Common.{lit<};
 ghost use Rattle.slotted_nodes.specs.Equal.{bind_form_fits, bind_same};
 ghost use Rattle.slotted_nodes.specs.Form.{bind_form};
-ghost use Rattle.slotted_terms_tests.specs.Nested.{tail_fits, tail_form, tail_same, tri_fits, tri_form, tri_same};
+ghost use Rattle.slotted_term_lines.specs.Nested.{tail_fits, tail_form, tail_same};
 
-use crate::reading::Made;
 use slotted_languages::{Bind, Language, LanguageChildren, pair};
 use slotted_slots::{AppliedId, Error, Slot, SyntaxElem};
 use std::alloc::Global;
@@ -73,77 +72,6 @@ impl LanguageChildren for Tail {
 
     fn from_syntax(_alloc: Global, _elements: &[SyntaxElem]) -> Result<Option<Self>, Error> {
         Ok(None)
-    }
-}
-
-// A slot, a binder over a child, and a slot.
-#[derive(Drop, Debug, Clone, PartialEq, Eq, PartialOrd, Ord, Hash)]
-pub(crate) struct Tri(Slot, Tail);
-
-impl LanguageChildren for Tri {
-    ghost form = { λ t. tri_form t.0 t.1.0.slot t.1.0.elem t.1.1 };
-
-    ghost shown = { λ _. [] };
-
-    ghost read = { λ _. None };
-
-    ghost fits = { λ t. tri_fits t.0 t.1.0.slot t.1.0.elem t.1.1 };
-
-    ghost few = { λ _. lit< tt };
-
-    // No elements are read as such a node.
-    ghost faithful = { λ _. tt };
-
-    ghost same = { λ a b. tri_same a.0 a.1.0.slot a.1.0.elem a.1.1 b.0 b.1.0.slot b.1.0.elem b.1.1 };
-
-    fn copy(&self, alloc: Global) -> Result<Self, Error> {
-        Ok(Tri(self.0, self.1.copy(alloc)?))
-    }
-
-    fn slot_count(&self) -> usize {
-        pair::slot_count(&self.0, &self.1)
-    }
-
-    fn slot(&self, i: usize) -> Slot {
-        pair::slot(&self.0, &self.1, i)
-    }
-
-    fn set_slot(&mut self, i: usize, s: Slot) {
-        pair::set_slot(&mut self.0, &mut self.1, i, s);
-    }
-
-    fn scope_end(&self, i: usize) -> Option<usize> {
-        pair::scope_end(&self.0, &self.1, i)
-    }
-
-    fn applied_id_count(&self) -> usize {
-        pair::applied_id_count(&self.0, &self.1)
-    }
-
-    fn get_applied_id(&self, k: usize) -> Option<&AppliedId> {
-        pair::get_applied_id(&self.0, &self.1, k)
-    }
-
-    fn applied_id_place(&self, k: usize) -> usize {
-        pair::applied_id_place(&self.0, &self.1, k)
-    }
-
-    fn set_applied_id(&mut self, k: usize, a: AppliedId) {
-        pair::set_applied_id(&mut self.0, &mut self.1, k, a);
-    }
-
-    fn to_syntax(&self, alloc: Global) -> Result<Vec<SyntaxElem>, Error> {
-        Ok(Vec::new(alloc))
-    }
-
-    fn from_syntax(_alloc: Global, _elements: &[SyntaxElem]) -> Result<Option<Self>, Error> {
-        Ok(None)
-    }
-}
-
-impl Language for Tri {
-    fn operator(&self) -> u32 {
-        0
     }
 }
 
@@ -235,23 +163,13 @@ fn tail_of(alloc: Global, elements: &[SyntaxElem]) -> Result<Tail, Error> {
     }
 }
 
-impl Made for Tri {
-    fn made(alloc: Global, elements: &[SyntaxElem]) -> Result<Self, Error> {
-        match elements {
-            [SyntaxElem::Slot(slot), rest @ ..] => Ok(Tri(*slot, tail_of(alloc, rest)?)),
-            _ => Err(Error::NotATerm),
+// Returns a binder over a binder and a slot, of these elements.
+pub(crate) fn make_outer(alloc: Global, elements: &[SyntaxElem]) -> Result<Outer, Error> {
+    match elements {
+        [SyntaxElem::Slot(slot), rest @ ..] => {
+            let (slot, elem) = (*slot, tail_of(alloc, rest)?);
+            Ok(Outer(Bind { slot, elem }))
         }
-    }
-}
-
-impl Made for Outer {
-    fn made(alloc: Global, elements: &[SyntaxElem]) -> Result<Self, Error> {
-        match elements {
-            [SyntaxElem::Slot(slot), rest @ ..] => {
-                let (slot, elem) = (*slot, tail_of(alloc, rest)?);
-                Ok(Outer(Bind { slot, elem }))
-            }
-            _ => Err(Error::NotATerm),
-        }
+        _ => Err(Error::NotATerm),
     }
 }
