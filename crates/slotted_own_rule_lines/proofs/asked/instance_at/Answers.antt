@@ -3,7 +3,7 @@ use Rattle.std.specs.Prelude.{slice_index_or}
 use Rattle.std.proofs.lemmas.List.Elements.{Contains-get_or}
 use Rattle.slotted_rule_patterns.specs.Values.{values_of}
 use Rattle.slotted_graph.specs.Matching.{AreValidValues}
-use Rattle.slotted_rules_tests.proofs.asked.instance_at.Goals as goal
+use Rattle.slotted_own_rule_lines.proofs.asked.instance_at.Goals as goal
 
 pub pattern_subst-requires-clause-values : goal.pattern_subst-requires-clause-values
 pattern_subst-requires-clause-values c =

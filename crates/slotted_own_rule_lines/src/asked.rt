@@ -1,4 +1,5 @@
 //! Questions to a graph by words.
+use crate::failed::refuses;
 use crate::graphs::{bare_sum, compare, put, term_text, unite};
 use crate::own_conditions::{FirstOnly, RefusesLater};
 use crate::own_methods::Asserting;
@@ -186,6 +187,7 @@ fn is_so(alloc: Global, graph: &mut EGraph<Small>, word: &str, text: &str) -> Re
         "unite" => unite_instances(alloc, graph, text),
         "looked up" => is_looked_up(alloc, graph, text),
         "failed" => Ok(graph.is_failed()),
+        "refuses" => refuses(alloc, graph, text),
         _ => joined(graph, word, text),
     }
 }

@@ -1,7 +1,7 @@
 use Rattle.std.proofs.Common.{inr}
 use Rattle.std.specs.Prelude.{None}
 use Rattle.slotted_graph.proofs.Extending.{extends-united}
-use Rattle.slotted_rules_tests.proofs.own_rules.UnionRewriteT.apply.Goals as goal
+use Rattle.slotted_own_rule_lines.proofs.own_rules.UnionRewriteT.apply.Goals as goal
 
 pub returns-clause-extends : goal.returns-clause-extends
 returns-clause-extends g c =
