@@ -10,7 +10,7 @@ use Rattle.slotted_data.specs.Carrying.{DataRests, RestedBefore}
 use Rattle.slotted_data.proofs.Resting.{nothing-rests-data, rested-itself}
 use Rattle.slotted_const_fold.specs.declared.const_fold.Fold.{Fold}
 use Rattle.slotted_const_fold.specs.ConstFold.{fold}
-use Rattle.slotted_analyses_tests.proofs.carried.carried_nothing.Goals as goal
+use Rattle.slotted_data_lines.proofs.carried.carried_nothing.Goals as goal
 
 pub carry-requires-clause-rests : goal.carry-requires-clause-rests
 carry-requires-clause-rests c =

@@ -15,7 +15,7 @@ pub struct Marking;
 impl Analysis<Small> for Marking {
     ghost use Rattle.std.specs.Prelude.{◌≡◌, true};
     ghost use Rattle.slotted_slots.specs.Error.{IsOutOfMemory};
-    ghost use Rattle.slotted_analyses_tests.specs.Marking.{AsksOneIsTwo, marking, marking_codes, marking_merges};
+    ghost use Rattle.slotted_data_lines.specs.Marking.{AsksOneIsTwo, marking, marking_codes, marking_merges};
     ghost use Rattle.std.proofs.Common.{inl, rules};
 
     type Data = bool;

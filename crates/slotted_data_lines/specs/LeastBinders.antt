@@ -4,8 +4,8 @@ use Rattle.std.specs.Coded.{Coded, coded_ℕ}
 use base.Stored.{gnil}
 use Rattle.slotted_theory.specs.Nameless.{DTerm}
 use Rattle.slotted_analyses.specs.Meaning.{Meaning, IsMergeOf}
-use Rattle.slotted_analyses_tests.specs.LeastSize.{largest, least_size_merges}
-use Rattle.slotted_analyses_tests.specs.declared.least_binders.LeastBinders.{LeastBinders}
+use Rattle.slotted_data_lines.specs.LeastSize.{largest, least_size_merges}
+use Rattle.slotted_data_lines.specs.declared.least_binders.LeastBinders.{LeastBinders}
 
 -- by the operator, which is one more than the node's: an abstraction is one binder
 abbrev pub binders_of : DTerm → ℕ

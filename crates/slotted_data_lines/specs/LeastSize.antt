@@ -5,8 +5,8 @@ use Rattle.std.specs.Prelude.{refl}
 use base.Stored.{gnil}
 use Rattle.std.proofs.Common.{arith}
 use Rattle.slotted_analyses.specs.Meaning.{Meaning, IsMergeOf}
-use Rattle.slotted_analyses_tests.specs.declared.least_size.LeastSize.{LeastSize}
-use Rattle.slotted_analyses_tests.specs.declared.refusing.Refusing.{Refusing}
+use Rattle.slotted_data_lines.specs.declared.least_size.LeastSize.{LeastSize}
+use Rattle.slotted_data_lines.specs.declared.refusing.Refusing.{Refusing}
 
 abbrev pub largest : ℕ
 largest = 2 ^ 32 - 1

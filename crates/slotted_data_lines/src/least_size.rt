@@ -1,6 +1,6 @@
 //! The number of e-nodes of the smallest term of a class.
 ghost use Rattle.std.specs.Prelude.{◌≡◌, suc, sum, min};
-ghost use Rattle.slotted_analyses_tests.specs.LeastSize.{largest, least_size};
+ghost use Rattle.slotted_data_lines.specs.LeastSize.{largest, least_size};
 
 use slotted_analyses::Analysis;
 use slotted_languages::Language;
@@ -13,7 +13,7 @@ use std::alloc::Global;
 pub struct LeastSize;
 
 impl<L: Language> Analysis<L> for LeastSize {
-    ghost use Rattle.slotted_analyses_tests.specs.LeastSize.{least_size, least_size_merges, size_codes};
+    ghost use Rattle.slotted_data_lines.specs.LeastSize.{least_size, least_size_merges, size_codes};
     ghost use Rattle.std.specs.Prelude.{false};
     ghost use Rattle.std.proofs.Common.{rules};
 

@@ -12,7 +12,7 @@ impl<L: Language> Analysis<L> for Tired {
     ghost use Rattle.std.specs.Prelude.{refl, true};
     ghost use Rattle.slotted_slots.specs.Error.{IsShortage};
     ghost use Rattle.slotted_analyses.specs.Meaning.{no_data, no_data_merges};
-    ghost use Rattle.slotted_analyses_tests.specs.Tired.{tired_codes};
+    ghost use Rattle.slotted_data_lines.specs.Tired.{tired_codes};
 
     type Data = ();
 

@@ -9,7 +9,7 @@ use Rattle.slotted_analyses.specs.declared.edit.Edit.TheVariants.{Equate}
 use Rattle.slotted_analyses.specs.Meaning.{Meaning, IsMergeOf}
 use Rattle.slotted_small.specs.declared.small.Small.{Small}
 use Rattle.slotted_const_fold.specs.ConstFold.{number_term}
-use Rattle.slotted_analyses_tests.specs.declared.marking.Marking.{Marking}
+use Rattle.slotted_data_lines.specs.declared.marking.Marking.{Marking}
 
 abbrev pub height_of : Bool → ℕ
 height_of true = 0

@@ -12,7 +12,7 @@ pub struct Refusing {
 }
 
 impl<L: Language> Analysis<L> for Refusing {
-    ghost use Rattle.slotted_analyses_tests.specs.LeastSize.{least_size, least_size_merges, refusing_codes};
+    ghost use Rattle.slotted_data_lines.specs.LeastSize.{least_size, least_size_merges, refusing_codes};
     ghost use Rattle.std.specs.Prelude.{false};
     ghost use Rattle.std.proofs.Common.{rules};
 

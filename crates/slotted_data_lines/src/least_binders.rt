@@ -1,6 +1,6 @@
 //! The least number of binders among the terms of a class.
 ghost use Rattle.std.specs.Prelude.{◌≡◌, ◌+◌, sum, min};
-ghost use Rattle.slotted_analyses_tests.specs.LeastSize.{largest};
+ghost use Rattle.slotted_data_lines.specs.LeastSize.{largest};
 
 use slotted_analyses::Analysis;
 use slotted_slots::Error;
@@ -13,7 +13,7 @@ use std::alloc::Global;
 pub struct LeastBinders;
 
 impl Analysis<Small> for LeastBinders {
-    ghost use Rattle.slotted_analyses_tests.specs.LeastBinders.{binder_codes, least_binders, least_binders_merges};
+    ghost use Rattle.slotted_data_lines.specs.LeastBinders.{binder_codes, least_binders, least_binders_merges};
     ghost use Rattle.std.specs.Prelude.{false};
     ghost use Rattle.std.proofs.Common.{rules};
 
