@@ -1,0 +1,2 @@
+-- The laws of the language of these lines.
+pub mod Nested

@@ -1,0 +1,41 @@
+//! Errors, and copies of tokens and elements of syntax.
+use crate::reading::element;
+use slotted_slots::{Error, ParseError, SlotTable, SyntaxElem, Token};
+use std::alloc::Global;
+
+// Returns the error of a name.
+fn error(alloc: Global, name: &str) -> Error {
+    match name {
+        "OutOfMemory" => Error::OutOfMemory,
+        "OutOfSlots" => Error::OutOfSlots,
+        "Failed" => Error::Failed,
+        "Parse" => Error::Parse(ParseError::TokenState(String::new(alloc))),
+        "NotATerm" => Error::NotATerm,
+        "SubstInSearch" => Error::SubstInSearch,
+        "MissingVariable" => Error::MissingVariable(String::new(alloc)),
+        "NotEqual" => Error::NotEqual,
+        "BadStep" => Error::BadStep,
+        "UnknownClass" => Error::UnknownClass,
+        _ => Error::NumberTooLarge,
+    }
+}
+
+// Writes the number and the name of the error of a name.
+pub(crate) fn write_error(alloc: Global, name: &str, text: &mut String) -> Result<(), Error> {
+    let error = error(alloc, name);
+    let (number, name) = (error.number(), error.name());
+    Ok(write!(text, "{number} {name}")?)
+}
+
+// Returns whether the copy and the clone of the token of a text equal the token.
+fn is_copied_token(alloc: Global, text: &str) -> Result<bool, Error> {
+    let token = Token::Ident(String::from_str(alloc, text)?);
+    Ok(token.copy(alloc)? == token && token.clone()? == token)
+}
+
+// Returns whether the copies and the clones of the token and the element of a text equal these.
+pub(crate) fn are_copied(alloc: Global, text: &str, table: &mut SlotTable) -> Result<bool, Error> {
+    let element: SyntaxElem = element(alloc, table, text)?;
+    let holds = element.copy(alloc)? == element && element.clone()? == element;
+    Ok(holds && is_copied_token(alloc, text)?)
+}

@@ -1,2 +1,0 @@
--- The laws of the languages of these tests.
-pub mod Nested
