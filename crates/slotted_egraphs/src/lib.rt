@@ -8,6 +8,7 @@
 #![tactic(auto)]
 
 pub mod example;
+pub mod slot_map;
 
 pub use slotted_analyses::Analysis;
 pub use slotted_analyses::Edit;
@@ -60,6 +61,8 @@ pub use slotted_rules::Always;
 pub use slotted_rules::And;
 pub use slotted_rules::Cond;
 pub use slotted_rules::CondTree;
+pub use slotted_rules::DataPasses;
+pub use slotted_rules::DataTest;
 pub use slotted_rules::Not;
 pub use slotted_rules::Or;
 pub use slotted_rules::ReadsNames;
@@ -106,7 +109,10 @@ pub use slotted_slots::Token;
 pub use slotted_small::Small;
 pub use slotted_symbols::Argument;
 pub use slotted_symbols::SymbolLang;
+pub use slotted_symmetries::is_equal_up_to_symmetries;
 pub use slotted_terms::RecExpr;
 pub use slotted_terms::expr::printing::Printable;
 pub use slotted_terms::pattern_to_re;
 pub use slotted_terms::re_to_pattern;
+pub use std::collections::HashMap;
+pub use std::collections::HashSet;

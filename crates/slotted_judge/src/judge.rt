@@ -202,7 +202,10 @@ impl Judge {
         }
         let verdict = self.verdict(&question)?;
         let Question {
-            text, proof, fault, ..
+            text,
+            proof,
+            fault,
+            ..
         } = question;
         Ok(Some(Answer {
             claim: String::from_str(self.alloc, sides_of(&text))?,

@@ -146,9 +146,10 @@ impl Known {
         goal: &Equation,
         reason: &str,
     ) -> Result<bool, AllocError> {
-        let (Some(reasons), Some(Some(equation))) =
-            (self.reasons.get(place), self.equations.get(place))
-        else {
+        let (Some(reasons), Some(Some(equation))) = (
+            self.reasons.get(place),
+            self.equations.get(place),
+        ) else {
             return Ok(false);
         };
         if reasons.reason.as_str() != reason {
@@ -188,10 +189,12 @@ impl Known {
         goal: &Equation,
         is_turned: bool,
     ) -> Result<Option<Given>, AllocError> {
-        let Some(Line {
-            text,
-            says: Says::Rule(rule),
-        }) = self.lines.get(line)
+        let Some(
+            Line {
+                text,
+                says: Says::Rule(rule),
+            },
+        ) = self.lines.get(line)
         else {
             return Ok(None);
         };
@@ -201,7 +204,8 @@ impl Known {
             return Ok(None);
         };
         let words = &operators.words.texts;
-        let Some(made) = rule_instance(alloc, words, &operators.binders, text, rule, &values)? else {
+        let Some(made) = rule_instance(alloc, words, &operators.binders, text, rule, &values)?
+        else {
             return Ok(None);
         };
         if !is_said(alloc, &made, goal, is_turned)? {

@@ -1,6 +1,6 @@
 //! The lines of a certificate that say something, by their parts.
 use crate::reader::Reader;
-use crate::reading::{Names, read_tokens, renumber};
+use crate::reading::{Names, read_tokens, renumber, renumber_puts};
 use crate::words::Words;
 use slotted_certificates::claims::Claim;
 use slotted_certificates::given::Assertion;
@@ -155,26 +155,15 @@ fn made_rule(
     conditions: Vec<Condition>,
     names: Names,
 ) -> Result<Rule, AllocError> {
-    let (mut left, mut right) = sides;
-    let Names {
-        slots,
-        variables,
-        mut puts,
-    } = names;
-    let count = variables.texts.len();
-    renumber(&mut left, count);
-    renumber(&mut right, count);
-    for k in 0..puts.len() {
-        let put = &mut puts[k];
-        renumber(&mut put.body, count);
-        renumber(&mut put.part, count);
-        renumber(&mut put.value, count);
-    }
+    let count = names.variables.texts.len();
+    let left = renumber(alloc, &sides.0, count)?;
+    let right = renumber(alloc, &sides.1, count)?;
+    let puts = renumber_puts(alloc, &names.puts, count)?;
     Ok(Rule {
         name: String::from_str(alloc, name)?,
         goes_back,
-        slots: slots.texts,
-        variables: variables.texts,
+        slots: names.slots.texts,
+        variables: names.variables.texts,
         left,
         right,
         puts,
@@ -199,9 +188,7 @@ pub fn read_rule(
         return Ok(None);
     };
     match read_conditions(alloc, &mut reader, &mut names)? {
-        Some(conditions) => Ok(Some(made_rule(
-            alloc, name, goes_back, sides, conditions, names,
-        )?)),
+        Some(conditions) => Ok(Some(made_rule(alloc, name, goes_back, sides, conditions, names)?)),
         None => Ok(None),
     }
 }

@@ -27,15 +27,48 @@ impl Names {
     }
 }
 
-/// Gives the substitutions among parts of a line their numbers: they stand behind so many variables.
-pub fn renumber(tokens: &mut Vec<Token>, variables: usize) {
-    for k in 0..tokens.len() {
-        if let Token::Value(number) = tokens[k]
-            && number >= FIRST_PUT
-        {
-            tokens[k] = Token::Value((number - FIRST_PUT).saturating_add(variables));
+// Returns a part with its number in the whole line: substitutions stand behind so many variables.
+fn renumbered(token: Token, variables: usize) -> Token {
+    match token {
+        Token::Value(number) if number >= FIRST_PUT => {
+            Token::Value((number - FIRST_PUT).saturating_add(variables))
         }
+        _ => token,
     }
+}
+
+/// Returns parts of a line of so many variables with their numbers in the whole line.
+pub fn renumber(
+    alloc: Global,
+    tokens: &[Token],
+    variables: usize,
+) -> Result<Vec<Token>, AllocError> {
+    let mut made = Vec::new(alloc);
+    for token in tokens {
+        made.push(renumbered(*token, variables))?;
+    }
+    Ok(made)
+}
+
+/// Returns substitutions of a line of so many variables with their numbers in the whole line.
+pub fn renumber_puts(
+    alloc: Global,
+    puts: &[Put],
+    variables: usize,
+) -> Result<Vec<Put>, AllocError> {
+    let mut made = Vec::new(alloc);
+    for put in puts {
+        made.push(renumber_put(alloc, put, variables)?)?;
+    }
+    Ok(made)
+}
+
+// Returns a substitution with its numbers in the whole line.
+fn renumber_put(alloc: Global, put: &Put, variables: usize) -> Result<Put, AllocError> {
+    let body = renumber(alloc, &put.body, variables)?;
+    let part = renumber(alloc, &put.part, variables)?;
+    let value = renumber(alloc, &put.value, variables)?;
+    Ok(Put { body, part, value })
 }
 
 // A part whose end was not read yet, and where it begins.
@@ -65,7 +98,11 @@ struct Reading {
 }
 
 // Returns the last parts, from a place on, and takes them away.
-fn split_off(alloc: Global, tokens: &mut Vec<Token>, start: usize) -> Result<Vec<Token>, AllocError> {
+fn split_off(
+    alloc: Global,
+    tokens: &mut Vec<Token>,
+    start: usize,
+) -> Result<Vec<Token>, AllocError> {
     let mut last = Vec::new(alloc);
     for k in start..tokens.len() {
         last.push(tokens[k])?;
