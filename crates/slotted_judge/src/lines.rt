@@ -159,11 +159,17 @@ fn made_rule(
     let left = renumber(alloc, &sides.0, count)?;
     let right = renumber(alloc, &sides.1, count)?;
     let puts = renumber_puts(alloc, &names.puts, count)?;
+    let name = String::from_str(alloc, name)?;
+    let Names {
+        slots,
+        variables,
+        ..
+    } = names;
     Ok(Rule {
-        name: String::from_str(alloc, name)?,
+        name,
         goes_back,
-        slots: names.slots.texts,
-        variables: names.variables.texts,
+        slots: slots.into_texts(),
+        variables: variables.into_texts(),
         left,
         right,
         puts,

@@ -19,6 +19,11 @@ impl Words {
         }
     }
 
+    /// Returns the texts.
+    pub fn into_texts(self) -> Vec<String> {
+        self.texts
+    }
+
     /// Returns the number of a text, which is added if it has none.
     pub fn number(&mut self, alloc: Global, text: &str) -> Result<usize, AllocError> {
         if let Some(number) = self.numbers.get(text) {
