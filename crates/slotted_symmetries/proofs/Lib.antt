@@ -4,3 +4,8 @@ pub mod TwistedMaps
 pub mod Twists
 pub mod ModelTwists
 pub mod Answering
+pub mod Differences
+pub mod GroupTwists
+pub mod Gaining
+pub mod FoundSides
+pub mod InGroup
