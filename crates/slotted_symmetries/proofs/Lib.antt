@@ -1,5 +1,3 @@
-pub mod OrderSets
-pub mod StepLists
 pub mod TwistedMaps
 pub mod Twists
 pub mod ModelTwists

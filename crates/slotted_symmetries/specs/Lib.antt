@@ -1,3 +1,2 @@
-pub mod Equality
-pub mod Orders
 pub mod Groups
+pub mod Equality
