@@ -7,3 +7,5 @@ pub mod GroupTwists
 pub mod Gaining
 pub mod FoundSides
 pub mod InGroup
+pub mod LeastIds
+pub mod EqualIds
