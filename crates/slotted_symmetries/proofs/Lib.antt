@@ -1,6 +1,11 @@
-pub mod OrderSets
-pub mod StepLists
 pub mod TwistedMaps
 pub mod Twists
 pub mod ModelTwists
 pub mod Answering
+pub mod Differences
+pub mod GroupTwists
+pub mod Gaining
+pub mod FoundSides
+pub mod InGroup
+pub mod LeastIds
+pub mod EqualIds
