@@ -2,14 +2,14 @@
 //!
 //! Terms of them are extracted on a stack that grows by memory, so the machine's stack stays as it is. Each is taken
 //! apart e-node by e-node here, since dropping a whole term goes down level by level.
+use crate::extracted::unite;
 use slotted_costs::AstSize;
 use slotted_explain::EGraph;
 use slotted_extract::Extractor;
-use slotted_slots::{AppliedId, Error, SlotTable};
+use slotted_slots::{AppliedId, Error};
 use slotted_small::Small;
 use slotted_terms::expr::RecExpr;
 use std::alloc::Global;
-use std::process::Abort;
 
 // Adds an e-node, if that is possible. Returns its id.
 fn put(graph: &mut EGraph<Small>, node: Small) -> Result<AppliedId, Error> {
@@ -38,15 +38,6 @@ fn levels(
         top = level(alloc, graph, &top)?;
     }
     Ok(top)
-}
-
-// Unites two ids, if they are valid.
-fn unite(graph: &mut EGraph<Small>, l: &AppliedId, r: &AppliedId) -> Result<bool, Error> {
-    if graph.is_valid(l) && graph.is_valid(r) {
-        graph.union(l, r)
-    } else {
-        Err(Error::NotATerm)
-    }
 }
 
 // Returns the term of fewest e-nodes, if the id is valid.
@@ -96,32 +87,14 @@ fn class_of_levels(
     Ok(last)
 }
 
-// Asserts that two e-nodes are extracted for each level, and one for the first class.
-fn check_in(
-    rt: &impl Abort,
+/// Returns how many e-nodes are extracted for a class of so many levels over a first one. The levels may go round.
+pub fn count_of_levels(
     alloc: Global,
     graph: &mut EGraph<Small>,
+    count: usize,
     round: bool,
-) -> Result<(), Error> {
-    let last = class_of_levels(alloc, graph, 10_000, round)?;
+) -> Result<usize, Error> {
+    let last = class_of_levels(alloc, graph, count, round)?;
     let term = given(alloc, graph, &last)?;
-    let nodes = node_count(alloc, term, 30_000)?;
-    assert!(rt; nodes == 20_001, "{nodes}");
-    Ok(())
-}
-
-// Asserts the same for a new graph.
-fn check(rt: &impl Abort, alloc: Global, round: bool) -> Result<(), Error> {
-    let mut graph: EGraph<Small> = EGraph::new(alloc, SlotTable::new(alloc), ())?;
-    check_in(rt, alloc, &mut graph, round)
-}
-
-#[test]
-fn a_chain_of_ten_thousand_levels_is_extracted(rt: HostRuntime) -> Result<(), Error> {
-    check(&rt, rt.alloc(), false)
-}
-
-#[test]
-fn a_cycle_of_ten_thousand_classes_is_extracted(rt: HostRuntime) -> Result<(), Error> {
-    check(&rt, rt.alloc(), true)
+    node_count(alloc, term, count.saturating_mul(3))
 }

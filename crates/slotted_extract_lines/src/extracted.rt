@@ -1,18 +1,21 @@
-//! Questions to an extractor by words, and the walk over the rows of a table. Each row is `ASK: TERM => ANSWER`.
+//! Questions to an extractor by words.
 use slotted_costs::CostFunction;
 use slotted_explain::EGraph;
 use slotted_extract::{Extractor, ast_size_extract, extract};
 use slotted_languages::Language;
 use slotted_questions::graphs::{parted, put};
-use slotted_slots::{AppliedId, Error, SlotTable};
+use slotted_slots::{AppliedId, Error};
 use slotted_terms::expr::RecExpr;
 use slotted_terms::expr::printing::Printable;
 use slotted_terms::flat::flatten;
 use std::alloc::Global;
-use std::process::Abort;
 
-// Unites two ids, if they are valid.
-fn unite<L: Language>(graph: &mut EGraph<L>, l: &AppliedId, r: &AppliedId) -> Result<bool, Error> {
+/// Unites two ids, if they are valid.
+pub fn unite<L: Language>(
+    graph: &mut EGraph<L>,
+    l: &AppliedId,
+    r: &AppliedId,
+) -> Result<bool, Error> {
     if graph.is_valid(l) && graph.is_valid(r) {
         graph.union(l, r)
     } else {
@@ -20,10 +23,10 @@ fn unite<L: Language>(graph: &mut EGraph<L>, l: &AppliedId, r: &AppliedId) -> Re
     }
 }
 
-// Adds both terms of each line, and unites them. The term of a line that has one is added alone.
-fn unite_lines<L: Language>(graph: &mut EGraph<L>, lines: &str) -> Result<(), Error> {
-    for line in lines.lines() {
-        let (left, right) = line.split_once(" == ").unwrap_or((line, line));
+// Adds both terms of each part, and unites them. The term of a part that has one is added alone.
+fn unite_each<L: Language>(graph: &mut EGraph<L>, parts: &str) -> Result<(), Error> {
+    for part in parts.split_terminator("; ") {
+        let (left, right) = part.split_once(" == ").unwrap_or((part, part));
         let l = put(graph, left)?;
         let r = put(graph, right)?;
         unite(graph, &l, &r)?;
@@ -181,65 +184,27 @@ fn term_text<L: Printable, F: CostFunction<L> + Default>(
     given_text(alloc, graph, extractor, word, &id)
 }
 
-// Returns the answer, or the number of the error behind a sign.
-fn answer<L: Printable, F: CostFunction<L, Cost = u64> + Default>(
+/// Returns an extractor of the graph after unions.
+pub fn extractor_after<L: Language, F: CostFunction<L> + Default>(
+    alloc: Global,
+    graph: &mut EGraph<L>,
+    unions: &str,
+) -> Result<Extractor<L, F>, Error> {
+    unite_each(graph, unions)?;
+    Extractor::new(alloc, graph, F::default())
+}
+
+/// Returns the answer to a question by a word.
+pub fn answer<L: Printable, F: CostFunction<L, Cost = u64> + Default>(
     alloc: Global,
     graph: &mut EGraph<L>,
     extractor: &Extractor<L, F>,
     word: &str,
     text: &str,
 ) -> Result<String, Error> {
-    let answered = if word.ends_with("cost") {
+    if word.ends_with("cost") {
         cost_text(alloc, graph, extractor, word, text)
     } else {
         term_text(alloc, graph, extractor, word, text)
-    };
-    match answered {
-        Ok(text) => Ok(text),
-        Err(e) => {
-            let number = e.number();
-            Ok(format!(in alloc; "refused {number}")?)
-        }
     }
-}
-
-// Asks the rows of an extractor.
-fn check_rows<L: Printable, F: CostFunction<L, Cost = u64> + Default>(
-    rt: &impl Abort,
-    alloc: Global,
-    graph: &mut EGraph<L>,
-    extractor: &Extractor<L, F>,
-    rows: &str,
-) -> Result<(), Error> {
-    for row in rows.lines() {
-        let (ask, wanted) = parted(row, " => ");
-        let (word, text) = parted(ask, ": ");
-        let told = answer(alloc, graph, extractor, word, text)?;
-        assert!(rt; told.as_str() == wanted, "{row}: {told}");
-    }
-    Ok(())
-}
-
-// Asks the rows after unions. The extractor is made before the terms of the rows are added.
-fn check_in<L: Printable, F: CostFunction<L, Cost = u64> + Default>(
-    rt: &impl Abort,
-    alloc: Global,
-    graph: &mut EGraph<L>,
-    unions: &str,
-    rows: &str,
-) -> Result<(), Error> {
-    unite_lines(graph, unions)?;
-    let extractor: Extractor<L, F> = Extractor::new(alloc, graph, F::default())?;
-    check_rows(rt, alloc, graph, &extractor, rows)
-}
-
-/// Asserts that each row has its answer, in a new graph after the unions.
-pub fn check<L: Printable, F: CostFunction<L, Cost = u64> + Default>(
-    rt: &impl Abort,
-    alloc: Global,
-    unions: &str,
-    rows: &str,
-) -> Result<(), Error> {
-    let mut graph: EGraph<L> = EGraph::new(alloc, SlotTable::new(alloc), ())?;
-    check_in::<L, F>(rt, alloc, &mut graph, unions, rows)
 }
