@@ -8,7 +8,6 @@ use slotted_rules::{Rewrite, SlotFreeIn, slot_free_in};
 use slotted_slots::{AppliedId, Error, SlotTable};
 use slotted_terms::expr::RecExpr;
 use std::alloc::Global;
-use std::process::Abort;
 
 // The term that is added, the sides of the union, and the terms whose equality is explained.
 const TERMS: [&str; 5] = [
@@ -29,9 +28,9 @@ fn is_write(step: &str) -> bool {
     matches!(step, "add" | "unite" | "explain" | "apply" | "run")
 }
 
-/// The terms and rules that the steps are about.
+// The terms and rules that the steps are about.
 #[derive(Drop)]
-pub struct Asked<L: Language> {
+struct Asked<L: Language> {
     terms: Vec<RecExpr<L>>,
     rules: Vec<Rewrite<L, SlotFreeIn>>,
 }
@@ -64,8 +63,8 @@ fn read_rules<L: Language>(
     Ok(rules)
 }
 
-/// Returns the terms and rules of the steps. The first name that is read is `x`.
-pub fn read<L: Language>(alloc: Global, table: &mut SlotTable) -> Result<Asked<L>, Error> {
+// Returns the terms and rules of the steps. The first name that is read is `x`.
+fn read<L: Language>(alloc: Global, table: &mut SlotTable) -> Result<Asked<L>, Error> {
     let terms = read_terms(alloc, table)?;
     let rules = read_rules(alloc, table)?;
     Ok(Asked { terms, rules })
@@ -110,7 +109,7 @@ fn take<L: Language>(
 }
 
 /// The ending of the script.
-#[derive(Drop)]
+#[derive(Clone, Copy)]
 pub struct Ending {
     /// The first step that was refused, if any was.
     pub refused: Option<&'static str>,
@@ -118,39 +117,36 @@ pub struct Ending {
     pub refusals: usize,
     /// Whether the graph has failed.
     pub failed: bool,
+    /// Whether each step was answered or refused as it has to be.
+    pub right: bool,
 }
 
-// Returns the number of the error, or 0. Asserts that a step without an error has the answer for ample memory and
-// slots.
-fn refusal(rt: &impl Abort, outcome: Result<bool, Error>, step: &str) -> u8 {
+// Returns the number of the error, or 0 if a step has the answer for ample memory and slots.
+fn refusal(outcome: &Result<bool, Error>) -> u8 {
     match outcome {
-        Ok(holds) => {
-            assert!(rt; holds, "{step}");
-            0
-        }
+        Ok(true) => 0,
+        Ok(false) => u8::MAX,
         Err(e) => e.number(),
     }
 }
 
-// Asks a step again that was refused and left the graph as it was. One growth at most is refused, but no slot comes
-// back.
-fn ask_again<L: Language>(
-    rt: &impl Abort,
+// Returns whether a step that was refused, and left the graph as it was, is answered as it has to be if it is asked
+// again. One growth at most is refused, but no slot comes back.
+fn is_answered_again<L: Language>(
     alloc: Global,
     graph: &mut EGraph<L>,
     asked: &Asked<L>,
     id: &mut AppliedId,
     step: &str,
     ended: u8,
-) {
-    let again = refusal(rt, take(alloc, graph, asked, id, "0", step), step);
-    assert!(rt; again == (if ended == 1 { 0 } else { ended }), "{step}");
-    assert!(rt; !graph.is_failed(), "{step}");
+) -> bool {
+    let again = refusal(&take(alloc, graph, asked, id, "0", step));
+    again == (if ended == 1 { 0 } else { ended }) && !graph.is_failed()
 }
 
 // Takes a step, and once more if the step was refused and the graph has not failed, since nothing was asserted then.
-fn go_on<L: Language>(
-    rt: &impl Abort,
+// Returns whether all is as it has to be.
+fn goes_on<L: Language>(
     alloc: Global,
     graph: &mut EGraph<L>,
     asked: &Asked<L>,
@@ -159,42 +155,44 @@ fn go_on<L: Language>(
     step: &'static str,
     ended: u8,
     ending: &mut Ending,
-) {
+) -> bool {
     let asserted = graph.asserted().len();
-    let number = refusal(rt, take(alloc, graph, asked, id, last, step), step);
+    let number = refusal(&take(alloc, graph, asked, id, last, step));
     ending.failed = graph.is_failed();
-    assert!(rt; ending.failed == (number != 0 && is_write(step)), "{step}");
     if number == 0 {
-        return;
+        return !ending.failed;
     }
-    assert!(rt; number == ended, "{step}");
     ending.refusals = ending.refusals.saturating_add(1);
     if ending.refused.is_none() {
         ending.refused = Some(step);
     }
-    if !ending.failed {
-        assert!(rt; graph.asserted().len() == asserted, "{step}");
-        ask_again(rt, alloc, graph, asked, id, step, ended);
+    if ending.failed {
+        return number == ended && is_write(step);
     }
+    number == ended
+        && !is_write(step)
+        && graph.asserted().len() == asserted
+        && is_answered_again(alloc, graph, asked, id, step, ended)
 }
 
-// Asserts that a failed graph refuses each step.
-fn assert_failed<L: Language>(
-    rt: &impl Abort,
+// Returns whether a failed graph refuses each step, also those that were answered before.
+fn refuses_all<L: Language>(
     alloc: Global,
     graph: &mut EGraph<L>,
     asked: &Asked<L>,
     id: &mut AppliedId,
-    step: &str,
-) {
-    let number = refusal(rt, take(alloc, graph, asked, id, "0", step), step);
-    assert!(rt; number == 3, "{step}");
-    assert!(rt; graph.is_failed(), "{step}");
+) -> bool {
+    for step in STEPS {
+        let number = refusal(&take(alloc, graph, asked, id, "0", step));
+        if number != 3 || !graph.is_failed() {
+            return false;
+        }
+    }
+    true
 }
 
-// Takes the steps in order. Once the graph has failed, each is refused, also those that were answered before.
+// Takes the steps in order, up to one after which the graph has failed, or that is not as it has to be.
 fn walk<L: Language>(
-    rt: &impl Abort,
     alloc: Global,
     graph: &mut EGraph<L>,
     asked: &Asked<L>,
@@ -204,20 +202,15 @@ fn walk<L: Language>(
     ending: &mut Ending,
 ) {
     for step in STEPS {
-        if !ending.failed {
-            go_on(rt, alloc, graph, asked, id, last, step, ended, ending);
-        }
-    }
-    if ending.failed {
-        for step in STEPS {
-            assert_failed(rt, alloc, graph, asked, id, step);
+        ending.right = goes_on(alloc, graph, asked, id, last, step, ended, ending);
+        if ending.failed || !ending.right {
+            return;
         }
     }
 }
 
-// Takes the steps over a graph from a null id on.
+// Takes the steps over a graph from a null id on, and then over the graph that has failed.
 fn walk_from_null<L: Language>(
-    rt: &impl Abort,
     alloc: Global,
     graph: &mut EGraph<L>,
     asked: &Asked<L>,
@@ -229,64 +222,60 @@ fn walk_from_null<L: Language>(
         refused: None,
         refusals: 0,
         failed: false,
+        right: true,
     };
-    walk(rt, alloc, graph, asked, &mut id, last, ended, &mut ending);
+    walk(alloc, graph, asked, &mut id, last, ended, &mut ending);
+    if ending.failed {
+        ending.right = ending.right && refuses_all(alloc, graph, asked, &mut id);
+    }
     ending
 }
 
 // The names that are read, in their order.
 const NAMES: [(&str, u32); 5] = [("x", 2), ("y", 6), ("a", 10), ("b", 14), ("c", 18)];
 
-// Asserts that the table has the names that were read.
-fn assert_named(rt: &impl Abort, table: &mut SlotTable) {
+// Returns whether the table has the names that were read.
+fn has_names(table: &mut SlotTable) -> Result<bool, Error> {
     for (name, raw) in NAMES {
-        let slot = table.named(name).expect(rt, "the name was read");
-        assert!(rt; slot.raw() == raw, "{name}");
+        if table.named(name)?.raw() != raw {
+            return Ok(false);
+        }
     }
+    Ok(true)
 }
 
 // Takes the steps over a graph with this table, which comes out in the end.
 fn walk_with<L: Language>(
-    rt: &impl Abort,
     alloc: Global,
     table: SlotTable,
     asked: &Asked<L>,
     last: &str,
     ended: u8,
-) -> Ending {
-    let mut graph: EGraph<L> = EGraph::new(alloc, table, ()).expect(rt, "no memory is taken");
-    let ending = walk_from_null(rt, alloc, &mut graph, asked, last, ended);
+) -> Result<Ending, Error> {
+    let mut graph: EGraph<L> = EGraph::new(alloc, table, ())?;
+    let mut ending = walk_from_null(alloc, &mut graph, asked, last, ended);
     let mut table = graph.into_table();
-    assert_named(rt, &mut table);
-    ending
+    ending.right = ending.right && has_names(&mut table)?;
+    Ok(ending)
 }
 
 // Reads the terms and rules of the steps, once more if a growth is refused.
 fn read_again<L: Language>(
-    rt: &impl Abort,
     alloc: Global,
     table: &mut SlotTable,
     ended: u8,
-) -> Asked<L> {
+) -> Result<Asked<L>, Error> {
     match read(alloc, table) {
-        Ok(asked) => asked,
-        Err(e) => {
-            assert!(rt; e.number() == ended);
-            read(alloc, table).expect(rt, "one growth is refused")
-        }
+        Ok(asked) => Ok(asked),
+        Err(e) if e.number() == ended => read(alloc, table),
+        Err(e) => Err(e),
     }
 }
 
-/// Takes the steps over a graph with this table, in which a slot is named first. Returns how the script ended. `ended`
+/// Takes the steps over a graph with a new table, in which a slot is named first. Returns how the script ended. `ended`
 /// is the number of the error that may come.
-pub fn walk_over<L: Language>(
-    rt: &impl Abort,
-    alloc: Global,
-    table: SlotTable,
-    last: &str,
-    ended: u8,
-) -> Ending {
-    let mut table = table;
-    let asked: Asked<L> = read_again(rt, alloc, &mut table, ended);
-    walk_with(rt, alloc, table, &asked, last, ended)
+pub fn walk_over<L: Language>(alloc: Global, last: &str, ended: u8) -> Result<Ending, Error> {
+    let mut table = SlotTable::new(alloc);
+    let asked: Asked<L> = read_again(alloc, &mut table, ended)?;
+    walk_with(alloc, table, &asked, last, ended)
 }
