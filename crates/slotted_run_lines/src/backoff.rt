@@ -57,7 +57,7 @@ impl<L: Language, C: Drop> Backoff<L, C> {
 }
 
 impl<L: Language, N: Analysis<L>, C: Cond<L, N>> RewriteT<L, N> for Backoff<L, C> {
-    ghost use Rattle.slotted_runs_tests.specs.Resting.{rested-fits};
+    ghost use Rattle.slotted_run_lines.specs.Resting.{rested-fits};
     ghost use Rattle.slotted_rules.specs.WrittenLaws.{apply-later, refused-other, valid-later};
 
     type Found = Matches;
