@@ -1,11 +1,11 @@
 -- A claim that is derivable from equations that lines give.
-use Rattle.std.proofs.Common.{◌≡◌, ℕ, List, [], ◌∷◌, map, sym, ◌∙◌, ap, refl, subst, inl, inr}
+use Rattle.std.proofs.Common.{ℕ, List, [], ◌∷◌, sym, subst, inl, inr}
 use Rattle.std.specs.Prelude.{Bool, All, Contains}
 use Rattle.std.proofs.lemmas.List.Elements.{All-contains}
 use Rattle.slotted_theory.specs.Term.{Term}
 use Rattle.slotted_theory.proofs.Lists.{Contains-nil, contains_cases, contains_head, contains_tail}
 use Rattle.slotted_check.specs.declared.steps.Equation.{Equation}
-use Rattle.slotted_check.specs.Derived.{IsDerived, IsOneOf, IsRowsOf}
+use Rattle.slotted_check.specs.Derived.{IsDerived, IsOneOf}
 use Rattle.slotted_certificates.specs.declared.tokens.Token.{Token}
 use Rattle.slotted_certificates.specs.Meaning.{IsInstance}
 use Rattle.slotted_certificates.specs.Given.{AreDifferent, IsSidesText}
@@ -49,11 +49,12 @@ collected ops bs lines (e ∷ es) h =
       ];
     }
 
-pub follows : (ops : List (List ℕ)) (bs : List ℕ) (lines : List (List ℕ)) (text : List ℕ) (es : List Equation) (e : Equation) → All (GivenRows ops bs lines) es →
-    ClaimRows ops bs text e → IsDerived es e → FollowsFrom ops bs lines text
-follows ops bs lines text es e all claim derived =
+pub follows : (ops : List (List ℕ)) (bs : List ℕ) (lines : List (List ℕ)) (text : List ℕ) (es : List Equation) (e : Equation) → AreDifferent ops →
+    All (GivenRows ops bs lines) es → ClaimRows ops bs text e → IsDerived es e → FollowsFrom ops bs lines text
+follows ops bs lines text es e different all claim derived =
     let c = collected ops bs lines es (λ f k. All-contains (GivenRows ops bs lines) es f all k) in
     record {
+      different = different;
       left = claim.left;
       right = claim.right;
       claim = claim.claim;

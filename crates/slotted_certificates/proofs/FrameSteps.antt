@@ -1,17 +1,17 @@
 -- One part more in front of what ends all that is open.
 use Rattle.std.proofs.Common.{◌≡◌, ◌≢◌, ℕ, List, [], ◌∷◌, ◌++◌, sym, ◌∙◌, ap, refl, subst, append_assoc, append-nil}
 use Rattle.std.specs.Prelude.{Bool, true, false, ◌&&◌}
-use Rattle.slotted_theory.specs.Nameless.{DArgs, DTerm, stop, extend, moved}
+use Rattle.slotted_theory.specs.Nameless.{DArgs, DTerm, stop, moved}
 use Rattle.slotted_theory.proofs.Values.{node, child_before}
 use Rattle.slotted_check.specs.declared.pieces.Piece.{Piece}
 use Rattle.slotted_check.specs.declared.pieces.Piece.TheVariants.{Head, Name}
 use Rattle.slotted_check.specs.declared.pieces.Piece.TheVariants as piece
-use Rattle.slotted_check.specs.Rows.{closing, leaving, row, row_args, ArePlain, IsPlain}
+use Rattle.slotted_check.specs.Rows.{closing, leaving, row, row_args, IsPlain}
 use Rattle.slotted_certificates.specs.declared.tokens.Token.{Token}
 use Rattle.slotted_certificates.specs.declared.tokens.Token.TheVariants.{Leaf, Bracket, Close, Slot, Value}
 use Rattle.slotted_certificates.specs.declared.frames.Frame.{Frame}
 use Rattle.slotted_certificates.specs.declared.frames.Frame.TheVariants.{Root, Node, Scope}
-use Rattle.slotted_certificates.specs.Grammar.{AreArgumentsOf, IsTermOf, begins_term, none, slot, term, bound, leaf, bracket, value}
+use Rattle.slotted_certificates.specs.Grammar.{IsTermOf, begins_term, none, slot, term, bound, leaf, bracket, value}
 use Rattle.slotted_certificates.specs.Frames.{Before, BeginsTerm, Behind, EndsNode, EndsScope, Rest, scopes_of}
 use Rattle.slotted_certificates.specs.Scopes.{numbering}
 

@@ -1,15 +1,13 @@
 -- A name is free in a term exactly if its row has it.
-use Rattle.std.proofs.Common.{◌≡◌, ◌≢◌, ℕ, suc, List, [], ◌∷◌, ◌++◌, sym, ◌∙◌, ap, refl, subst, inl, inr, append_assoc, append-nil, arith}
+use Rattle.std.proofs.Common.{◌≡◌, ◌≢◌, ℕ, suc, List, [], ◌++◌, sym, ◌∙◌, ap, refl, inl, inr, append_assoc, append-nil, arith}
 use Rattle.std.specs.Prelude.{◌⊎◌, Bool, true, false, nat_eq, if◌then◌else◌, Some, slice_get}
 use Rattle.std.proofs.lemmas.Bool.{eq-eqb, ne_eqb, cases_eq}
 use Rattle.slotted_theory.specs.Nameless.{DArgs, DTerm, stop, place, sub, scope}
 use Rattle.slotted_check.specs.declared.pieces.Piece.{Piece}
-use Rattle.slotted_check.specs.declared.pieces.Piece.TheVariants.{Head, Name, Scope}
 use Rattle.slotted_check.specs.Lines.{IsTermRow}
 use Rattle.slotted_check.specs.Rows.{End, closing, leaving, down, row, row_args}
 use Rattle.slotted_certificates.specs.declared.rules.Condition.{Condition}
 use Rattle.slotted_certificates.specs.Free.{IsFreeAt, IsFreeName, free_in_row}
-use Rattle.slotted_certificates.specs.Meaning.{IsValueIn}
 use Rattle.slotted_certificates.specs.Rules.{Holds, IsAsAsked}
 
 -- a name as it is numbered behind an end

@@ -2,7 +2,7 @@
 use Rattle.std.proofs.Common.{◌≡◌, ℕ, List, [], length, sym, ◌∙◌, ap, subst}
 use Rattle.std.specs.Prelude.{Bool, Option, Some, None, IfSome, Result, Ok, Err, IfOk}
 use Rattle.slotted_theory.specs.Term.{Term}
-use Rattle.slotted_theory.specs.Nameless.{DTerm, nameless}
+use Rattle.slotted_theory.specs.Nameless.{nameless}
 use Rattle.slotted_theory.proofs.NamesBack.{a_named_term}
 use Rattle.slotted_check.specs.declared.pieces.Piece.{Piece}
 use Rattle.slotted_check.specs.declared.steps.Equation.{Equation}

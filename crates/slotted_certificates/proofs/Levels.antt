@@ -1,9 +1,8 @@
 -- Levels of names, and what they say of the number of a name under scopes.
 use Rattle.std.proofs.Common.{◌≡◌, ◌≢◌, ℕ, zero, suc, ◌+◌, ◌-◌, ◌≤◌, List, [], ◌∷◌, ◌++◌, length, sym, ◌∙◌, ap, refl, subst, inl, inr, arith}
-use Rattle.std.specs.Prelude.{cond, nat_eq, Option, Some, None, IfSome}
+use Rattle.std.specs.Prelude.{cond, nat_eq}
 use Rattle.std.specs.List.{slice_index_or}
 use Rattle.std.proofs.lemmas.Bool.{eq-eqb, ne_eqb, cases_eq}
-use Rattle.slotted_theory.specs.Nameless.{extend}
 use Rattle.slotted_certificates.specs.Scopes.{AreLevels, Keeps, names, numbering, turned, with_value}
 
 turned-length : (os ps : List (ℕ × ℕ)) → length (turned os ps) ≡ length os + length ps

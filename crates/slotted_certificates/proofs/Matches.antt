@@ -1,5 +1,5 @@
 -- Comparing what a row begins with, piece by piece.
-use Rattle.std.proofs.Common.{◌≡◌, ◌<◌, ℕ, List, [], ◌∷◌, ◌++◌, length, sym, ◌∙◌, ap, arith}
+use Rattle.std.proofs.Common.{◌≡◌, ℕ, List, [], ◌∷◌, ◌++◌, length, sym, ◌∙◌, ap, arith}
 use Rattle.slotted_check.specs.declared.pieces.Piece.{Piece}
 use Rattle.slotted_check.specs.Rows.{IsMoved, lifts, moved_row}
 use Rattle.slotted_check.proofs.OneReading.{rest_of}

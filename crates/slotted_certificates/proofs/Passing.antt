@@ -1,5 +1,5 @@
 -- What going past a part of a text does to the row that is made, and to what is open.
-use Rattle.std.proofs.Common.{◌≡◌, ◌≢◌, ◌<◌, ℕ, zero, suc, List, [], ◌∷◌, ◌++◌, sym, ◌∙◌, ap, refl, subst, append_assoc, append-nil, length, arith}
+use Rattle.std.proofs.Common.{◌≡◌, ◌≢◌, ℕ, zero, suc, List, [], ◌∷◌, ◌++◌, sym, ◌∙◌, ap, refl, subst, append_assoc, append-nil, length, arith}
 use Rattle.std.specs.Prelude.{Bool, true, false, ◌&&◌, Option, Some, None, slice_get}
 use Rattle.std.proofs.lemmas.Option.{none-some}
 use Rattle.slotted_theory.specs.Nameless.{DTerm, moved}
@@ -14,7 +14,7 @@ use Rattle.slotted_certificates.specs.declared.tokens.Token.TheVariants.{Leaf, B
 use Rattle.slotted_certificates.specs.declared.frames.Frame.{Frame}
 use Rattle.slotted_certificates.specs.declared.frames.Frame.TheVariants.{Root, Node, Scope}
 use Rattle.slotted_certificates.specs.Grammar.{begins_term, binds_in}
-use Rattle.slotted_certificates.specs.Frames.{Advances, Before, Behind, EndsTerm, Passes, frames, scopes_of}
+use Rattle.slotted_certificates.specs.Frames.{Advances, Before, EndsTerm, Passes, frames, scopes_of}
 use Rattle.slotted_certificates.specs.Meaning.{AreTermRows, IsInstance, IsValueIn}
 use Rattle.slotted_certificates.specs.Scopes.{numbering, turned}
 use Rattle.slotted_certificates.proofs.Levels.{turned-more}

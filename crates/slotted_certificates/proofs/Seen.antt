@@ -1,7 +1,7 @@
 -- Pieces of a value as they are seen under scopes around the value.
 use Rattle.std.proofs.Common.{◌≡◌, ℕ, ◌+◌, ◌-◌, ◌<◌, ◌≤◌, sym, ◌∙◌, ap, refl}
 use Rattle.slotted_check.specs.declared.pieces.Piece.TheVariants.{Name, Scope, Leave}
-use Rattle.slotted_check.specs.Rows.{lifts, IsMoved}
+use Rattle.slotted_check.specs.Rows.{IsMoved}
 use Rattle.slotted_check.proofs.Lifted.{lifts-above, lifts-below, lifts-deeper, lifts-shallower}
 
 pub place-seen : (f : ℕ → ℕ) (k a : ℕ) → a < k → IsMoved f k (Name a) (Name a) k

@@ -1,16 +1,16 @@
 -- One step of a substitution in a row.
-use Rattle.std.proofs.Common.{◌≡◌, ◌<◌, ◌+◌, ℕ, zero, suc, List, [], ◌∷◌, ◌++◌, length, sym, ◌∙◌, ap, refl, subst, append_assoc, append-nil, arith}
+use Rattle.std.proofs.Common.{◌≡◌, ◌+◌, ℕ, suc, List, [], ◌∷◌, ◌++◌, length, sym, ◌∙◌, ap, refl, subst, append_assoc, append-nil, arith}
 use Rattle.slotted_theory.specs.Nameless.{DArgs, DTerm, stop, place, sub, scope, moved}
 use Rattle.slotted_theory.proofs.Laws.{moved-moved, moved-id}
 use Rattle.slotted_theory.proofs.Values.{node, child_before}
 use Rattle.slotted_check.specs.declared.pieces.Piece.{Piece}
 use Rattle.slotted_check.specs.declared.pieces.Piece.TheVariants.{Head, Name, Scope, Leave, Close}
 use Rattle.slotted_check.specs.Openings.{Closes, ClosesOne}
-use Rattle.slotted_check.specs.Rows.{End, closing, leaving, down, end_piece, moved_row, row, row_args, ArePlain, IsPlain}
+use Rattle.slotted_check.specs.Rows.{End, closing, leaving, end_piece, moved_row, row, row_args, ArePlain, IsPlain}
 use Rattle.slotted_check.proofs.MovedRows.{IsPlain-moved}
 use Rattle.slotted_check.proofs.OneReading.{AreOne, end-kind, first_kind, one_reading, one_term, rest_of}
 use Rattle.slotted_certificates.specs.Substitution.{Substitutes, SubstitutesArgs, whole, inside, no_argument, own_name, one_child, one_scope, seen_inside}
-use Rattle.slotted_certificates.specs.Turning.{AreTurned, IsSubstitutedRow, KeepsFirst, StepsTo, Turned, TurnsOne, TurnsTo, depth_behind, leaves, shift}
+use Rattle.slotted_certificates.specs.Turning.{AreTurned, IsSubstitutedRow, KeepsFirst, StepsTo, Turned, depth_behind, leaves, shift}
 use Rattle.slotted_certificates.proofs.Passing.{moved-value}
 
 -- what is kept where a piece is passed that begins no part

@@ -2,7 +2,7 @@
 --     IsClaim ops bs text t u            the text claims that t and u are equal
 --     IsGivenIn ops bs lines t u         one of the lines gives t = u
 --     FollowsFrom ops bs lines text      the text claims an equation that is derivable from some that the lines give
-use Rattle.std.specs.Prelude.{◌≡◌, ℕ, Bool, if◌then◌else◌, List, [], Contains, codes}
+use Rattle.std.specs.Prelude.{ℕ, Bool, if◌then◌else◌, List, [], Contains, codes}
 use Rattle.slotted_theory.specs.Term.{Term}
 use Rattle.slotted_theory.specs.Nameless.{nameless}
 use Rattle.slotted_theory.specs.Derives.{Derives}
@@ -37,7 +37,9 @@ pub record IsGivenIn (ops : List (List ℕ)) (bs : List ℕ) (lines : List (List
   pub among : Contains lines line
   pub gives : IsGivenBy ops bs line t u
 
+-- no two operators have one word, so that words tell them apart, and tell which ones bind
 pub record FollowsFrom (ops : List (List ℕ)) (bs : List ℕ) (lines : List (List ℕ)) (text : List ℕ) : Type 0 where
+  pub different : AreDifferent ops
   pub left : Term
   pub right : Term
   pub claim : IsClaim ops bs text left right

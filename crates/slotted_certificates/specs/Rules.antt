@@ -3,7 +3,7 @@
 --     Holds vs c                   the condition c holds of the values vs
 --     IsRuleInstance ops bs line t u     t and u are instances of the sides of the line's rule, with the same values, of which its conditions hold
 --     IsGivenBy ops bs line t u    the line asserts t = u, or this is an instance of its rule, or of its rule turned round if that goes both ways
-use Rattle.std.specs.Prelude.{◌≡◌, ◌⊎◌, ℕ, Bool, true, false, if◌then◌else◌, List, [], ◌∷◌, ◌++◌, length, map, Option, Some, None, IsTrue, slice_get, codes}
+use Rattle.std.specs.Prelude.{◌≡◌, ◌⊎◌, ℕ, Bool, true, false, if◌then◌else◌, List, [], ◌∷◌, ◌++◌, length, map, Option, Some, IsTrue, slice_get, codes}
 use Rattle.slotted_theory.specs.Term.{Term}
 use Rattle.slotted_theory.specs.Nameless.{DTerm, nameless}
 use Rattle.slotted_check.specs.declared.pieces.Piece.{Piece}

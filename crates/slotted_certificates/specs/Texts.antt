@@ -7,9 +7,9 @@ use Rattle.slotted_certificates.specs.declared.spelling.Spelling.{Spelling}
 use Rattle.slotted_certificates.specs.declared.tokens.Token.{Token}
 use Rattle.slotted_certificates.specs.declared.tokens.Token.TheVariants.{Leaf, Bracket, Close, Slot, Value}
 
--- what may stand in a word: no blank, tab, carriage return, round or square bracket
+-- what may stand in a word: no blank, tab, line feed, carriage return, round or square bracket
 abbrev pub is_of_word : ℕ → Bool
-is_of_word c = not (c == 32 || c == 9 || c == 13 || c == 40 || c == 41 || c == 91 || c == 93)
+is_of_word c = not (c == 32 || c == 9 || c == 10 || c == 13 || c == 40 || c == 41 || c == 91 || c == 93)
 
 abbrev pub are_of_word : List ℕ → Bool
 are_of_word [] = true

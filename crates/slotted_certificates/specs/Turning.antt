@@ -1,7 +1,7 @@
 -- What is left of a row, and what substitution makes of it.
 --     shift k d              the term d as it is seen from under k more binders
 --     Turned x t es ps qs    the row ps ends all of es, the first one first, and qs is that row with t in the places of x
-use Rattle.std.specs.Prelude.{◌≡◌, ◌<◌, ◌+◌, ℕ, zero, suc, List, [], ◌∷◌, ◌++◌, length}
+use Rattle.std.specs.Prelude.{◌≡◌, ◌<◌, ◌+◌, ℕ, suc, List, [], ◌∷◌, ◌++◌, length}
 use Rattle.slotted_theory.specs.Nameless.{DArgs, DTerm, moved}
 use Rattle.slotted_check.specs.declared.pieces.Piece.{Piece}
 use Rattle.slotted_check.specs.declared.pieces.Piece.TheVariants.{Scope, Leave}

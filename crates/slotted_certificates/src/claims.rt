@@ -234,7 +234,7 @@ pub enum Verdict {
     Fails(usize),
     /// Each line of the proof follows, and the last one does not say the claim, or there is none.
     OtherClaim,
-    /// The claim's text is not made of its parts, or an equation is not given by its line.
+    /// Two operators have one word, the claim's text is not made of its parts, or an equation is not given by its line.
     NotGiven,
 }
 
@@ -267,6 +267,9 @@ pub fn judge_claim(
     ensures checked { IfOk result (λ v. (v ≡ Checked) → FollowsFrom (map string_bytes operators.now) binders.now
         (map (λ l. string_bytes l.text) lines.now) text.now) }
 {
+    if !are_different(operators) {
+        return Ok(Verdict::NotGiven);
+    }
     let Some(claimed) = claimed(alloc, operators, binders, text, claim)? else {
         return Ok(Verdict::NotGiven);
     };

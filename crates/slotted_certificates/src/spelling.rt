@@ -12,6 +12,7 @@ fn is_of_word(byte: u8) -> bool
 {
     !(byte == b' '
         || byte == b'\t'
+        || byte == b'\n'
         || byte == b'\r'
         || byte == b'('
         || byte == b')'

@@ -1,5 +1,5 @@
 use Rattle.slotted_certificates.specs.Scopes.{numbering}
-use Rattle.slotted_certificates.proofs.Seen.{leave-seen, scope-seen}
+use Rattle.slotted_certificates.proofs.Seen.{scope-seen}
 use Rattle.slotted_certificates.proofs.instances.seen.Goals as goal
 
 pub returns-in-Some-deeper : goal.returns-in-Some-deeper

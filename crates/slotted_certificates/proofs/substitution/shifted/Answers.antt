@@ -1,5 +1,5 @@
 use Rattle.std.proofs.Common.{◌+◌}
-use Rattle.slotted_certificates.proofs.Seen.{leave-seen, scope-seen}
+use Rattle.slotted_certificates.proofs.Seen.{scope-seen}
 use Rattle.slotted_certificates.proofs.substitution.shifted.Goals as goal
 
 pub returns-in-Some-deeper : goal.returns-in-Some-deeper

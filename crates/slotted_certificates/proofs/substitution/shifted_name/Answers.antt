@@ -1,4 +1,4 @@
-use Rattle.std.proofs.Common.{◌+◌, ℕ, arith}
+use Rattle.std.proofs.Common.{◌+◌, arith}
 use Rattle.slotted_check.proofs.WalkSteps.{some-map}
 use Rattle.slotted_certificates.proofs.Seen.{name-seen, place-seen}
 use Rattle.slotted_certificates.proofs.substitution.shifted_name.Goals as goal

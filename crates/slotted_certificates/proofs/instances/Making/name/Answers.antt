@@ -1,4 +1,3 @@
-use Rattle.std.proofs.Common.{refl}
 use Rattle.std.specs.Prelude.{map}
 use Rattle.slotted_certificates.specs.Grammar.{binds_in}
 use Rattle.slotted_certificates.specs.Meaning.{IsValueIn}

@@ -1,7 +1,6 @@
 use Rattle.std.specs.Prelude.{map}
 use Rattle.slotted_check.proofs.WalkSteps.{ok-map}
 use Rattle.slotted_certificates.specs.Grammar.{binds_in}
-use Rattle.slotted_certificates.specs.Meaning.{IsValueIn}
 use Rattle.slotted_certificates.proofs.Passing.{term-at, value-passes}
 use Rattle.slotted_certificates.proofs.instances.Making.value.Goals as goal
 

@@ -1,4 +1,4 @@
-use Rattle.std.proofs.Common.{[], ◌∷◌, ◌≤◌, sym, ◌∙◌, ap}
+use Rattle.std.proofs.Common.{[], ◌∷◌, ◌∙◌, ap}
 use Rattle.slotted_certificates.specs.Scopes.{names, turned}
 use Rattle.slotted_certificates.proofs.Levels.{entered-levels, names-more}
 use Rattle.slotted_certificates.proofs.scopes.Scopes.enter.Goals as goal

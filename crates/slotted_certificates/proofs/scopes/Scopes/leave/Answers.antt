@@ -1,4 +1,4 @@
-use Rattle.std.proofs.Common.{[], ◌∷◌, ◌≤◌, sym, ◌∙◌, ap, arith}
+use Rattle.std.proofs.Common.{[], sym, ◌∙◌, ap}
 use Rattle.slotted_certificates.specs.Scopes.{names, turned}
 use Rattle.slotted_certificates.proofs.Levels.{left-has, left-levels, names-more}
 use Rattle.slotted_certificates.proofs.scopes.Scopes.leave.Goals as goal

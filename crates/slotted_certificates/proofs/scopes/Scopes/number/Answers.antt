@@ -1,4 +1,4 @@
-use Rattle.std.proofs.Common.{sym, ◌∙◌, ap, arith}
+use Rattle.std.proofs.Common.{◌∙◌, ap, arith}
 use Rattle.slotted_check.proofs.WalkSteps.{some-map}
 use Rattle.slotted_certificates.specs.Scopes.{numbering}
 use Rattle.slotted_certificates.proofs.Levels.{bound_number, free_number}
