@@ -8,7 +8,8 @@ use Rattle.slotted_check.specs.declared.pieces.Piece.TheVariants.{Head, Name}
 use Rattle.slotted_check.specs.declared.pieces.Piece.TheVariants as piece
 use Rattle.slotted_check.specs.Lines.{IsTermRow}
 use Rattle.slotted_check.specs.Rows.{moved_row, row}
-use Rattle.slotted_check.proofs.MovedRows.{IsPlain-moved, moved_row-row}
+use Rattle.slotted_check.proofs.MovedRows.{IsPlain-moved}
+use Rattle.slotted_check.proofs.StepLaws.{moved_row-alone}
 use Rattle.slotted_certificates.specs.declared.tokens.Token.{Token}
 use Rattle.slotted_certificates.specs.declared.tokens.Token.TheVariants.{Leaf, Bracket, Close, Slot, Value}
 use Rattle.slotted_certificates.specs.declared.frames.Frame.{Frame}
@@ -60,15 +61,12 @@ close-passes b v row row1 row' fs fs1 fs' n next one last e = record {
       (close-stands b v (frames fs1) n ts (e.pieces ++ ps) (e.goes ts ps h));
 }
 
-pub moved-value : (f : ℕ → ℕ) (d : DTerm) → moved_row f (row d) ≡ row (moved f d)
-moved-value f d = sym (ap (moved_row f) (append-nil (row d))) ∙ (moved_row-row f d [] ∙ append-nil (row (moved f d)))
-
 pub value-passes : (b : ℕ → Bool) (vs : List (List Piece)) (row0 row1 row' value : List Piece) (fs fs' : List Frame) (ns : List ℕ) (k : ℕ) (next : Bool) →
     slice_get vs k ≡ Some value → IsTermRow value → row1 ≡ row0 ++ moved_row (numbering ns) value → ns ≡ scopes_of (frames fs) → fs ≢ [] →
     EndsTerm b (IsValueIn vs) row1 row' fs fs' → Passes b (IsValueIn vs) row0 row' fs fs' (Value k) next
 value-passes b vs row0 row1 row' value fs fs' ns k next among is one names some e =
     let ρ : ℕ → ℕ = numbering (scopes_of (frames fs)) in
-    let seen : moved_row (numbering ns) value ≡ row (moved ρ is.term) = (λ i. moved_row (numbering (names i)) (is.is i)) ∙ moved-value ρ is.term in
+    let seen : moved_row (numbering ns) value ≡ row (moved ρ is.term) = (λ i. moved_row (numbering (names i)) (is.is i)) ∙ moved_row-alone ρ is.term in
     record {
       pieces = row (moved ρ is.term) ++ e.pieces;
       made = e.made ∙ (ap (λ u. u ++ e.pieces) (one ∙ ap (λ u. row0 ++ u) seen) ∙ append_assoc row0 (row (moved ρ is.term)) e.pieces);

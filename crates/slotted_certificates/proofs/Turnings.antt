@@ -11,7 +11,7 @@ use Rattle.slotted_check.proofs.MovedRows.{IsPlain-moved}
 use Rattle.slotted_check.proofs.OneReading.{AreOne, end-kind, first_kind, one_reading, one_term, rest_of}
 use Rattle.slotted_certificates.specs.Substitution.{Substitutes, SubstitutesArgs, whole, inside, no_argument, own_name, one_child, one_scope, seen_inside}
 use Rattle.slotted_certificates.specs.Turning.{AreTurned, IsSubstitutedRow, KeepsFirst, StepsTo, Turned, depth_behind, leaves, shift}
-use Rattle.slotted_certificates.proofs.Passing.{moved-value}
+use Rattle.slotted_check.proofs.StepLaws.{moved_row-alone}
 
 -- what is kept where a piece is passed that begins no part
 pub record Keeps (x t : DTerm) (es : List End) (p : Piece) (ps : List Piece) : Type 0 where
@@ -171,7 +171,7 @@ put-found x t [] ps later px pt h found = cons-nil (Head (shift 0 x).op) (row_ar
 put-found x t (e ∷ es) ps later px pt h found = put-args x t e es ps h.args h.behind later px pt h.plain h.is h.rest found
 
 seen-part : (k : ℕ) (es : List End) (part : List Piece) (x : DTerm) → part ≡ row x → k ≡ leaves es → moved_row (λ n. n + k) part ≡ row (shift (leaves es) x)
-seen-part k es part x e d = (λ i. moved_row (λ n. n + d i) (e i)) ∙ moved-value (λ n. n + leaves es) x
+seen-part k es part x e d = (λ i. moved_row (λ n. n + d i) (e i)) ∙ moved_row-alone (λ n. n + leaves es) x
 
 pub turned-part : (part value ps behind out new : List Piece) (k : ℕ) → ps ≡ moved_row (λ n. n + k) part ++ behind → new ≡ out ++ moved_row (λ n. n + k) value →
     StepsTo part value k ps k behind out new
