@@ -1,5 +1,5 @@
 -- The texts of terms and patterns, by the words of their operators, slots and values.
---     is_word bs        bs is a word: not empty, without white space and brackets, and with no `$` or `?` in front
+--     is_word bs        bs is a word: not empty, without blanks, tabs, line ends and brackets, and with no `$` or `?` in front
 --     text_of w ts      the text of the parts ts, with a blank in front of each but a closing bracket; none where a word lacks
 --     Adds o old new    new is old with the text o behind it
 use Rattle.std.specs.Prelude.{◌≡◌, ℕ, Bool, true, false, not, ◌&&◌, ◌||◌, ◌==◌, if◌then◌else◌, List, [], ◌∷◌, ◌++◌, Option, Some, None, map, slice_get, string_bytes, codes}

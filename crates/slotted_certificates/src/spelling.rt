@@ -34,7 +34,8 @@ fn are_of_word(bytes: &[u8]) -> bool
     true
 }
 
-/// Returns whether a text is a word: not empty, without white space and brackets, and with no `$` or `?` in front.
+/// Returns whether a text is a word: not empty, without blanks, tabs, line ends and brackets, and with no `$` or `?` in
+/// front.
 pub fn is_word(text: &str) -> bool
     ensures { result ≡ is_word text.now }
 {

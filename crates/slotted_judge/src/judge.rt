@@ -5,6 +5,7 @@ use crate::reader::Reader;
 use crate::reasons::step_of;
 use crate::words::Words;
 use slotted_certificates::claims::{Claim, Given, Verdict, claimed, judge_claim};
+use slotted_certificates::spelling::is_word;
 use slotted_check::following::Step;
 use slotted_check::steps::Equation;
 use std::alloc::{AllocError, Global};
@@ -48,6 +49,8 @@ pub struct Judge {
     operators: Operators,
     known: Known,
     question: Option<Question>,
+    // Whether a line could not be read that was to say what binds. No claim is read behind it.
+    is_lost: bool,
     /// How many lines were to say something, and could not be read.
     pub unread: usize,
 }
@@ -96,6 +99,7 @@ impl Judge {
             },
             known: Known::new(alloc),
             question: None,
+            is_lost: false,
             unread: 0,
         }
     }
@@ -250,6 +254,9 @@ impl Judge {
 
     fn begin_claim(&mut self, line: &str, asks: bool, sides: &str) -> Result<bool, AllocError> {
         let alloc = self.alloc;
+        if self.is_lost {
+            return Ok(false);
+        }
         let Some(claim) = read_claim(alloc, asks, sides, &mut self.operators.words)? else {
             return Ok(false);
         };
@@ -271,8 +278,12 @@ impl Judge {
         Ok(true)
     }
 
-    // Begins anew, with one operator more that binds.
+    // Begins anew, with one operator more that binds, if this is a word.
     fn bind(&mut self, word: &str) -> Result<bool, AllocError> {
+        if !is_word(word) {
+            self.is_lost = true;
+            return Ok(false);
+        }
         let operator = self.operators.words.number(self.alloc, word)?;
         self.operators.binders.push(operator)?;
         self.forget();
