@@ -7,7 +7,7 @@ ghost use Rattle.slotted_certificates.specs.Given.{AssertsRows, IsSidesText};
 ghost use Rattle.slotted_certificates.specs.Rules.{InstanceRows};
 ghost use Rattle.slotted_certificates.specs.Texts.{words};
 
-use crate::given::{Assertion, are_different, differ, asserted, is_sides_text, sides};
+use crate::given::{Assertion, are_different, asserted, differ, is_sides_text, sides};
 use crate::instances::is_done;
 use crate::rules::{Rule, rule_instance};
 use crate::spelling::{Spelling, word_at};
