@@ -91,7 +91,11 @@ where
     N::Data: Datum,
 {
     match EGraph::new(rt.alloc(), SlotTable::new(rt.alloc()), analysis) {
-        Ok(mut graph) => answer_lines(rt, &mut graph, lines),
+        Ok(mut graph) => {
+            let answered = answer_lines(rt, &mut graph, lines);
+            let _ = graph.into_table();
+            answered
+        }
         Err(_) => Err(io::Error::from(ErrorKind::OutOfMemory)),
     }
 }

@@ -77,10 +77,10 @@ fn answer_session(rt: &HostRuntime, session: &str) -> io::Result<()> {
     let (name, rows) = session.split_once("\n").unwrap_or((session, ""));
     match name.strip_prefix("slots ") {
         Some(words) => answer_slots(rt, words, rows),
-        None => {
-            let walked = walk_session::<Small>(rt.alloc(), name, rows, 1);
-            tell(rt, walked.unwrap_or(Walked::Wrong("memory")))
-        }
+        None => match walk_session::<Small>(rt.alloc(), name, rows, 1) {
+            Ok(walked) => tell(rt, walked),
+            Err(error) => println!(rt; "refused: {error}"),
+        },
     }
 }
 

@@ -70,7 +70,11 @@ fn answer_session(rt: &HostRuntime, session: &str) -> io::Result<()> {
         SubstMethod::SynExpr
     };
     match EGraph::with_subst_method(rt.alloc(), SlotTable::new(rt.alloc()), (), method) {
-        Ok(mut graph) => answer_rows(rt, &mut graph, rows),
+        Ok(mut graph) => {
+            let answered = answer_rows(rt, &mut graph, rows);
+            let _ = graph.into_table();
+            answered
+        }
         Err(_) => Err(io::Error::from(ErrorKind::OutOfMemory)),
     }
 }
