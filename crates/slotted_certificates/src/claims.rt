@@ -7,6 +7,7 @@ ghost use Rattle.slotted_certificates.specs.Given.{AssertsRows, IsSidesText};
 ghost use Rattle.slotted_certificates.specs.Rules.{InstanceRows};
 ghost use Rattle.slotted_certificates.specs.Texts.{words};
 
+use crate::distinct::are_many_different;
 use crate::given::{Assertion, are_different, asserted, is_sides_text, sides};
 use crate::rules::{Rule, rule_instance};
 use crate::spelling::Spelling;
@@ -267,7 +268,7 @@ pub fn judge_claim(
     ensures checked { IfOk result (λ v. (v ≡ Checked) → FollowsFrom (map string_bytes operators.now) binders.now
         (map (λ l. string_bytes l.text) lines.now) text.now) }
 {
-    if !are_different(operators) {
+    if !are_many_different(alloc, operators)? {
         return Ok(Verdict::NotGiven);
     }
     let Some(claimed) = claimed(alloc, operators, binders, text, claim)? else {
