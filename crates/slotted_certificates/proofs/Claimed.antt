@@ -9,7 +9,7 @@ use Rattle.slotted_check.specs.Derived.{IsDerived, IsOneOf}
 use Rattle.slotted_certificates.specs.declared.tokens.Token.{Token}
 use Rattle.slotted_certificates.specs.Meaning.{IsInstance}
 use Rattle.slotted_certificates.specs.Given.{AreDifferent, IsSidesText}
-use Rattle.slotted_certificates.specs.Following.{AreAlone, ClaimRows, FollowsFrom, GivenRows, IsGivenIn, LineRows, claim_opening, claim_sign}
+use Rattle.slotted_certificates.specs.Following.{ClaimRows, FollowsFrom, GivenRows, IsGivenIn, LineRows, claim_opening, claim_sign}
 use Rattle.slotted_certificates.specs.Texts.{words}
 use Rattle.slotted_certificates.proofs.GivenRows.{named, rows-named}
 
@@ -49,12 +49,12 @@ collected ops bs lines (e ∷ es) h =
       ];
     }
 
-pub follows : (ops : List (List ℕ)) (bs : List ℕ) (lines : List (List ℕ)) (text : List ℕ) (es : List Equation) (e : Equation) → AreAlone ops bs →
+pub follows : (ops : List (List ℕ)) (bs : List ℕ) (lines : List (List ℕ)) (text : List ℕ) (es : List Equation) (e : Equation) → AreDifferent ops →
     All (GivenRows ops bs lines) es → ClaimRows ops bs text e → IsDerived es e → FollowsFrom ops bs lines text
-follows ops bs lines text es e alone all claim derived =
+follows ops bs lines text es e different all claim derived =
     let c = collected ops bs lines es (λ f k. All-contains (GivenRows ops bs lines) es f all k) in
     record {
-      alone = alone;
+      different = different;
       left = claim.left;
       right = claim.right;
       claim = claim.claim;

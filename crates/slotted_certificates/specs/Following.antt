@@ -2,7 +2,7 @@
 --     IsClaim ops bs text t u            the text claims that t and u are equal
 --     IsGivenIn ops bs lines t u         one of the lines gives t = u
 --     FollowsFrom ops bs lines text      the text claims an equation that is derivable from some that the lines give
-use Rattle.std.specs.Prelude.{◌≡◌, ◌<◌, ℕ, Bool, if◌then◌else◌, List, [], ◌∷◌, Some, length, slice_get, Contains, codes}
+use Rattle.std.specs.Prelude.{ℕ, Bool, if◌then◌else◌, List, [], Contains, codes}
 use Rattle.slotted_theory.specs.Term.{Term}
 use Rattle.slotted_theory.specs.Nameless.{nameless}
 use Rattle.slotted_theory.specs.Derives.{Derives}
@@ -37,17 +37,9 @@ pub record IsGivenIn (ops : List (List ℕ)) (bs : List ℕ) (lines : List (List
   pub among : Contains lines line
   pub gives : IsGivenBy ops bs line t u
 
--- no other operator has the word of the operator b
-abbrev pub IsAlone : List (List ℕ) → ℕ → Type 0
-IsAlone ops b = (w : List ℕ) → slice_get ops b ≡ Some w → (n : ℕ) → n < length ops → slice_get ops n ≡ Some w → n ≡ b
-
--- so words tell which operators bind
-abbrev pub AreAlone : List (List ℕ) → List ℕ → Type 0
-AreAlone ops [] = Unit {0}
-AreAlone ops (b ∷ bs) = IsAlone ops b × AreAlone ops bs
-
+-- no two operators have one word, so that words tell them apart, and tell which ones bind
 pub record FollowsFrom (ops : List (List ℕ)) (bs : List ℕ) (lines : List (List ℕ)) (text : List ℕ) : Type 0 where
-  pub alone : AreAlone ops bs
+  pub different : AreDifferent ops
   pub left : Term
   pub right : Term
   pub claim : IsClaim ops bs text left right

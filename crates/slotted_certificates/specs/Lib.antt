@@ -5,6 +5,7 @@ pub mod Frames
 pub mod Meaning
 pub mod Texts
 pub mod Given
+pub mod Distinct
 pub mod Free
 pub mod Substitution
 pub mod Puts

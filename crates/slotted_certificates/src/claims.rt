@@ -1,16 +1,16 @@
 //! Claims of a certificate, and the equations that a proof of one stands on.
-ghost use Rattle.std.specs.Prelude.{◌≡◌, ◌<◌, [], All, Contains, Some, false, length, slice_get, map, string_bytes, IfOk, IfSome, IsTrue};
+ghost use Rattle.std.specs.Prelude.{◌≡◌, [], All, Contains, true, map, string_bytes, IfOk, IfSome, IsTrue};
 ghost use Rattle.slotted_check.specs.declared.following.Judgement.TheVariants.{Checked as JudgedChecked};
 ghost use Rattle.slotted_certificates.specs.declared.claims.Verdict.TheVariants.{Checked};
-ghost use Rattle.slotted_certificates.specs.Following.{AreAlone, ClaimRows, IsAlone, FollowsFrom, GivenRows, LineRows, claim_opening, claim_sign};
+ghost use Rattle.slotted_certificates.specs.Following.{ClaimRows, FollowsFrom, GivenRows, LineRows, claim_opening, claim_sign};
 ghost use Rattle.slotted_certificates.specs.Given.{AssertsRows, IsSidesText};
 ghost use Rattle.slotted_certificates.specs.Rules.{InstanceRows};
 ghost use Rattle.slotted_certificates.specs.Texts.{words};
 
-use crate::given::{Assertion, are_different, asserted, differ, is_sides_text, sides};
-use crate::instances::is_done;
+use crate::distinct::are_many_different;
+use crate::given::{Assertion, are_different, asserted, is_sides_text, sides};
 use crate::rules::{Rule, rule_instance};
-use crate::spelling::{Spelling, word_at};
+use crate::spelling::Spelling;
 use crate::tokens::Token;
 use slotted_check::following::{Judgement, Step, judge_proof};
 use slotted_check::pieces::Piece;
@@ -235,7 +235,7 @@ pub enum Verdict {
     Fails(usize),
     /// Each line of the proof follows, and the last one does not say the claim, or there is none.
     OtherClaim,
-    /// Another operator has the word of one that binds, the claim's text is not made of its parts, or an equation is not given by its line.
+    /// Two operators have one word, the claim's text is not made of its parts, or an equation is not given by its line.
     NotGiven,
 }
 
@@ -248,62 +248,6 @@ fn verdict_of(judgement: Judgement) -> Verdict
         Judgement::Fails(line) => Verdict::Fails(line),
         Judgement::OtherClaim => Verdict::OtherClaim,
     }
-}
-
-// Returns whether the operator of a number is not the one that binds, and has its word, or there is no such operator.
-fn is_other(operators: &[String], number: usize, binder: usize, word: &str) -> bool
-    ensures { result ≡ false → slice_get (map string_bytes operators.now) number ≡ Some word.now → number ≡ binder }
-{
-    if number == binder {
-        return false;
-    }
-    match word_at(operators, number) {
-        Some(other) => !differ(other, word),
-        None => true,
-    }
-}
-
-// Returns whether no other operator has the word of one that binds.
-fn is_alone(operators: &[String], binder: usize) -> bool
-    ensures { IsTrue result → IsAlone (map string_bytes operators.now) binder }
-{
-    match word_at(operators, binder) {
-        Some(word) => {
-            for number in 0..operators.len() {
-                if is_other(operators, number, binder, word) {
-                    return false;
-                }
-            }
-            true
-        }
-        None => false,
-    }
-}
-
-// Returns the operators that bind behind the first one, if no other operator has the word of that.
-fn behind_alone<'a>(operators: &[String], binders: &'a [usize]) -> Option<&'a [usize]>
-    ensures alone { IfSome result (λ rest. AreAlone (map string_bytes operators.now) rest.now
-        → AreAlone (map string_bytes operators.now) binders.now) }
-    ensures shorter { IfSome result (λ rest. length rest.now < length binders.now) }
-{
-    if binders.is_empty() || !is_alone(operators, binders[0]) {
-        return None;
-    }
-    Some(&binders[1..])
-}
-
-// Returns whether no other operator has the word of one of those that bind.
-fn are_alone(operators: &[String], binders: &[usize]) -> bool
-    ensures { IsTrue result → AreAlone (map string_bytes operators.now) binders.now }
-{
-    let mut rest = binders;
-    while !is_done(rest) {
-        match behind_alone(operators, rest) {
-            Some(behind) => rest = behind,
-            None => return false,
-        }
-    }
-    true
 }
 
 /// Judges the proof of a claim from equations that the lines of a certificate give.
@@ -324,7 +268,7 @@ pub fn judge_claim(
     ensures checked { IfOk result (λ v. (v ≡ Checked) → FollowsFrom (map string_bytes operators.now) binders.now
         (map (λ l. string_bytes l.text) lines.now) text.now) }
 {
-    if !are_alone(operators, binders) {
+    if !are_many_different(alloc, operators)? {
         return Ok(Verdict::NotGiven);
     }
     let Some(claimed) = claimed(alloc, operators, binders, text, claim)? else {

@@ -2,6 +2,7 @@
 #![tactic(auto)]
 
 pub mod claims;
+pub mod distinct;
 pub mod frames;
 pub mod given;
 pub mod instances;

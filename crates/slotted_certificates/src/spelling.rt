@@ -47,7 +47,7 @@ pub fn is_word(text: &str) -> bool
 }
 
 // Returns the word of a number.
-pub(crate) fn word_at<'a>(words: &'a [String], number: usize) -> Option<&'a str>
+fn word_at<'a>(words: &'a [String], number: usize) -> Option<&'a str>
     ensures { IfSome result (λ t. slice_get (map string_bytes words.now) number ≡ Some t.now) }
 {
     if number < words.len() {

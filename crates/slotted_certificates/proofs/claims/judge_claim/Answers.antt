@@ -14,6 +14,6 @@ returns-in-Some-2 c =
     let given = subst (λ o. IfSome o (λ v. All (GivenRows ops bs lines) v.items)) c.in-Some-2.is c.in_ok-equations.ensures in
     let claim = subst (λ o. IfSome o (λ e. ClaimRows ops bs c.args.text.now e)) c.in-Some.is c.in_ok-claimed.ensures in
     record {
-      checked = λ v. follows ops bs lines c.args.text.now es c.in-Some.claimed (c.are_alone.ensures c.if-not-are_alone.false) given claim
+      checked = λ v. follows ops bs lines c.args.text.now es c.in-Some.claimed (c.in_ok-are_many_different.ensures c.if-not-branch.false) given claim
           (subst (λ given. IsDerived given c.in-Some.claimed) c.deref.ensures.value (c.in_ok-judge_proof-in-Some-2.ensures.derived (c.verdict_of.ensures v)));
     }
