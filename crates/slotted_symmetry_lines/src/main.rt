@@ -1,0 +1,124 @@
+//! The program `slotted_symmetry_lines`: sessions about graphs with symmetries in, answers out.
+//!
+//! `union T == U` answers `true` if the terms were not equal, and unites them. `eq T == U` answers whether the ids of
+//! both terms are found equal. `same T == U` answers whether these ids are equal up to symmetries. `symmetries` answers
+//! how many symmetries were met, and how many of them are open. Any other line is answered by an error.
+//!
+//! A line `---` stands between two sessions, and each session has a graph of its own. A line that begins with `# ` is a
+//! title. Both are written as they stand.
+#![tactic(auto)]
+
+use slotted_graph::EGraph;
+use slotted_slots::{AppliedId, Error, SlotTable};
+use slotted_small::Small;
+use slotted_symmetries::is_equal_up_to_symmetries;
+use std::alloc::Global;
+use std::io;
+use std::io::ErrorKind;
+
+// Adds the term of a text by look-up, and returns its id.
+fn add(graph: &mut EGraph<Small>, text: &str) -> Result<AppliedId, Error> {
+    let term = graph.parse_expr(text)?;
+    graph.add_expr(&term)
+}
+
+// Returns the answer to a word about two ids, if they are valid.
+fn answer_of_ids(
+    alloc: Global,
+    graph: &mut EGraph<Small>,
+    word: &str,
+    left: &AppliedId,
+    right: &AppliedId,
+) -> Result<bool, Error> {
+    if !graph.is_valid(left) || !graph.is_valid(right) {
+        return Err(Error::NotATerm);
+    }
+    match word {
+        "union" => graph.union(left, right),
+        "same" => is_equal_up_to_symmetries(alloc, graph, left, right),
+        "eq" => graph.eq(left, right),
+        _ => Err(Error::NotATerm),
+    }
+}
+
+// Returns the answer to a word about two texts.
+fn answer_of_texts(
+    alloc: Global,
+    graph: &mut EGraph<Small>,
+    word: &str,
+    texts: &str,
+) -> Result<bool, Error> {
+    let (left, right) = texts.split_once(" == ").unwrap_or((texts, ""));
+    let left = add(graph, left)?;
+    let right = add(graph, right)?;
+    answer_of_ids(alloc, graph, word, &left, &right)
+}
+
+// Returns how many symmetries were met, and how many of them are open.
+fn counts(alloc: Global, graph: &EGraph<Small>) -> Result<String, Error> {
+    let met = graph.symmetries_met().len();
+    let open = graph.open_symmetries()?;
+    Ok(format!(in alloc; "{met} {open}")?)
+}
+
+// Returns an answer as text.
+fn told(word: &str, holds: bool) -> &'static str {
+    match (word, holds) {
+        ("union", true) => "true",
+        ("union", false) => "false",
+        (_, true) => "yes",
+        (_, false) => "no",
+    }
+}
+
+// Returns the answer to a line.
+fn answer(alloc: Global, graph: &mut EGraph<Small>, line: &str) -> Result<String, Error> {
+    if line == "symmetries" {
+        return counts(alloc, graph);
+    }
+    let (word, texts) = line.split_once(" ").unwrap_or((line, ""));
+    let holds = answer_of_texts(alloc, graph, word, texts)?;
+    Ok(String::from_str(alloc, told(word, holds))?)
+}
+
+// Answers a line, or writes it as it stands.
+fn answer_line(rt: &HostRuntime, graph: &mut EGraph<Small>, line: &str) -> io::Result<()> {
+    if line.starts_with("# ") {
+        return println!(rt; "{line}");
+    }
+    match answer(rt.alloc(), graph, line) {
+        Ok(told) => println!(rt; "{told}"),
+        Err(error) => {
+            let number = error.number();
+            let name = error.name();
+            println!(rt; "error: {number} {name}")
+        }
+    }
+}
+
+// Answers the lines of a session over its graph.
+fn answer_lines(rt: &HostRuntime, graph: &mut EGraph<Small>, session: &str) -> io::Result<()> {
+    for line in session.lines() {
+        answer_line(rt, graph, line)?;
+    }
+    Ok(())
+}
+
+// Answers a session over a graph of its own.
+fn answer_session(rt: &HostRuntime, session: &str) -> io::Result<()> {
+    match EGraph::<Small>::new(rt.alloc(), SlotTable::new(rt.alloc()), ()) {
+        Ok(mut graph) => answer_lines(rt, &mut graph, session),
+        Err(_) => Err(io::Error::from(ErrorKind::OutOfMemory)),
+    }
+}
+
+fn main(rt: HostRuntime) -> io::Result<()> {
+    let text = io::read_to_string(rt.alloc(), rt.reader())?;
+    for (k, session) in text.split("\n---\n").enumerate() {
+        if k > 0 {
+            println!(rt; "---")?;
+        }
+        answer_session(&rt, session)?;
+    }
+    Ok(())
+}
