@@ -13,13 +13,13 @@ use Rattle.slotted_check.proofs.StepLaws.{moved_row-alone}
 use Rattle.slotted_certificates.specs.declared.tokens.Token.{Token}
 use Rattle.slotted_certificates.specs.declared.tokens.Token.TheVariants.{Leaf, Bracket, Close, Slot, Value}
 use Rattle.slotted_certificates.specs.declared.frames.Frame.{Frame}
-use Rattle.slotted_certificates.specs.declared.frames.Frame.TheVariants.{Root, Node, Scope}
-use Rattle.slotted_certificates.specs.Grammar.{begins_term, binds_in}
-use Rattle.slotted_certificates.specs.Frames.{Advances, Before, EndsTerm, Passes, frames, scopes_of}
+use Rattle.slotted_certificates.specs.declared.frames.Frame.TheVariants.{Root, Node, Scope, Also}
+use Rattle.slotted_certificates.specs.Grammar.{begins_bound, binds_in}
+use Rattle.slotted_certificates.specs.Frames.{Advances, Before, Behind, EndsScopes, EndsTerm, IsScope, Passes, frames, scopes_of}
 use Rattle.slotted_certificates.specs.Meaning.{AreTermRows, IsInstance, IsValueIn}
 use Rattle.slotted_certificates.specs.Scopes.{numbering, turned}
 use Rattle.slotted_certificates.proofs.Levels.{turned-more}
-use Rattle.slotted_certificates.proofs.FrameSteps.{binder-stands, bracket-stands, close-stands, leaf-stands, slot-stands, value-stands, whole-term}
+use Rattle.slotted_certificates.proofs.FrameSteps.{also-also, scope-also, binder-stands, bracket-stands, close-stands, leaf-stands, slot-stands, value-stands, whole-term}
 
 frames-more : (fs gs : List Frame) (f : Frame) → gs ≡ fs ++ f ∷ [] → frames gs ≡ f ∷ frames fs
 frames-more fs gs f e = ap frames e ∙ turned-more fs [] f
@@ -104,6 +104,60 @@ binder-passes b v row row' fs fs1 fs' n x next one last more binds = record {
       (binder-stands b v (frames fs1) n x ts ps binds (subst (λ gs. Before b v gs ts ps) (frames-more fs1 fs' (Scope x n) more) h));
 }
 
+-- another slot that binds in the same term
+also-stands : (b : ℕ → Bool) (v : ℕ → DTerm → Type 0) (f : Frame) (fs : List Frame) (x : ℕ) (ts : List Token) (ps : List Piece) → IsScope f →
+    Before b v (Also x ∷ f ∷ fs) ts ps → Before b v (f ∷ fs) (Slot x ∷ ts) (piece.Scope ∷ ps)
+also-stands b v Root fs x ts ps is h = absurd is
+also-stands b v (Node n) fs x ts ps is h = absurd is
+also-stands b v (Scope y n) fs x ts ps is h = scope-also b v fs n y x ts ps h
+also-stands b v (Also y) fs x ts ps is h = also-also b v fs y x ts ps h
+
+pub also-passes : (b : ℕ → Bool) (v : ℕ → DTerm → Type 0) (row row' : List Piece) (fs fs1 fs2 : List Frame) (f : Frame) (x : ℕ) (next : Bool) →
+    row' ≡ row ++ piece.Scope ∷ [] → fs1 ≡ fs ++ f ∷ [] → fs2 ≡ fs1 ++ Also x ∷ [] → IsScope f → Passes b v row row' (fs ++ f ∷ []) fs2 (Slot x) next
+also-passes b v row row' fs fs1 fs2 f x next one before more is =
+    let outer : frames (fs ++ f ∷ []) ≡ f ∷ frames fs = frames-more fs (fs ++ f ∷ []) f refl in
+    let inner : frames fs2 ≡ Also x ∷ f ∷ frames fs = frames-more fs1 fs2 (Also x) more ∙ ap (λ gs. Also x ∷ gs) (ap frames before ∙ outer) in
+    record {
+      pieces = piece.Scope ∷ [];
+      made = one;
+      goes = λ ts ps _ h. subst (λ gs. Before b v gs (Slot x ∷ ts) (piece.Scope ∷ ps)) (sym outer)
+          (also-stands b v f (frames fs) x ts ps is (subst (λ gs. Before b v gs ts ps) inner h));
+    }
+
+-- one scope ends
+pub also-ends : (b : ℕ → Bool) (v : ℕ → DTerm → Type 0) (row row' : List Piece) (fs fs' : List Frame) (x : ℕ) →
+    row' ≡ row ++ piece.Leave ∷ [] → fs ≡ fs' ++ Also x ∷ [] → EndsScopes b v row row' fs fs'
+also-ends b v row row' fs fs' x one last = record {
+  pieces = piece.Leave ∷ [];
+  made = one;
+  goes = λ ts ps h. subst (λ gs. Behind b v gs ts (piece.Leave ∷ ps)) (sym (frames-more fs' fs (Also x) last)) (record { more = ps; pieces = refl; rest = h });
+}
+
+pub no-scopes-end : (b : ℕ → Bool) (v : ℕ → DTerm → Type 0) (row : List Piece) (fs : List Frame) → EndsScopes b v row row fs fs
+no-scopes-end b v row fs = record { pieces = []; made = sym (append-nil row); goes = λ ts ps h. h }
+
+pub more-scopes-end : (b : ℕ → Bool) (v : ℕ → DTerm → Type 0) (row row1 row2 : List Piece) (fs fs1 fs2 : List Frame) →
+    EndsScopes b v row row1 fs fs1 → EndsScopes b v row1 row2 fs1 fs2 → EndsScopes b v row row2 fs fs2
+more-scopes-end b v row row1 row2 fs fs1 fs2 e f = record {
+  pieces = e.pieces ++ f.pieces;
+  made = f.made ∙ (ap (λ u. u ++ f.pieces) e.made ∙ append_assoc row e.pieces f.pieces);
+  goes = λ ts ps h. subst (λ u. Behind b v (frames fs) ts u) (sym (append_assoc e.pieces f.pieces ps)) (e.goes ts (f.pieces ++ ps) (f.goes ts ps h));
+}
+
+term-ends : (b : ℕ → Bool) (v : ℕ → DTerm → Type 0) (row row1 row2 : List Piece) (fs fs1 fs2 : List Frame) →
+    EndsScopes b v row row1 fs fs1 → EndsTerm b v row1 row2 fs1 fs2 → EndsTerm b v row row2 fs fs2
+term-ends b v row row1 row2 fs fs1 fs2 e f = record {
+  pieces = e.pieces ++ f.pieces;
+  made = f.made ∙ (ap (λ u. u ++ f.pieces) e.made ∙ append_assoc row e.pieces f.pieces);
+  goes = λ ts ps h. subst (λ u. Behind b v (frames fs) ts u) (sym (append_assoc e.pieces f.pieces ps)) (e.goes ts (f.pieces ++ ps) (f.goes ts ps h));
+}
+
+pub term-ends-behind : (bs bs1 : List ℕ) (vs vs1 : List (List Piece)) (row row1 row2 : List Piece) (fs fs1 fs2 : List Frame) → bs1 ≡ bs → vs1 ≡ vs →
+    EndsScopes (binds_in bs) (IsValueIn vs) row row1 fs fs1 → EndsTerm (binds_in bs1) (IsValueIn vs1) row1 row2 fs1 fs2 →
+    EndsTerm (binds_in bs) (IsValueIn vs) row row2 fs fs2
+term-ends-behind bs bs1 vs vs1 row row1 row2 fs fs1 fs2 binders values e f =
+    term-ends (binds_in bs) (IsValueIn vs) row row1 row2 fs fs1 fs2 e (subst (λ u. u) (λ i. EndsTerm (binds_in (binders i)) (IsValueIn (values i)) row1 row2 fs1 fs2) f)
+
 -- the value of an option, or else another one
 abbrev value_or : List Piece → Option (List Piece) → List Piece
 value_or d None = d
@@ -116,7 +170,7 @@ term-at (v ∷ vs) zero ps h is = subst IsTermRow (ap (value_or v) is) h.0
 term-at (v ∷ vs) (suc k) ps h is = term-at vs k ps h.1 is
 
 pub passes-first : (b : ℕ → Bool) (v : ℕ → DTerm → Type 0) (row row' : List Piece) (fs fs' : List Frame) (ts us : List Token) (t : Token) (next : Bool) →
-    ts ≡ t ∷ us → next ≡ begins_term us → Passes b v row row' fs fs' t next → Advances b v row row' fs fs' ts us
+    ts ≡ t ∷ us → next ≡ begins_bound us → Passes b v row row' fs fs' t next → Advances b v row row' fs fs' ts us
 passes-first b v row row' fs fs' ts us t next e begins h = record {
   pieces = h.pieces;
   made = h.made;

@@ -9,4 +9,6 @@ pub enum Frame {
     Node(usize),
     /// The scope of a name, among the arguments of an operator.
     Scope(usize, usize),
+    /// The scope of another name, between such a scope and what both names are bound in.
+    Also(usize),
 }

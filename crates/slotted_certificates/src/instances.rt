@@ -7,8 +7,8 @@ ghost use Rattle.slotted_check.specs.declared.pieces.Piece.{Piece};
 ghost use Rattle.slotted_check.specs.declared.pieces.Piece.TheVariants.{Name};
 ghost use Rattle.slotted_certificates.specs.declared.frames.Frame.TheVariants.{Node, Root};
 ghost use Rattle.slotted_certificates.specs.declared.tokens.Token.TheVariants.{Leaf, Bracket, Close, Slot, Value};
-ghost use Rattle.slotted_certificates.specs.Frames.{Advances, EndsTerm, Passes, frames, scopes_of};
-ghost use Rattle.slotted_certificates.specs.Grammar.{begins_term, binds_in};
+ghost use Rattle.slotted_certificates.specs.Frames.{Advances, EndsScopes, EndsTerm, IsScope, Passes, frames, scopes_of};
+ghost use Rattle.slotted_certificates.specs.Grammar.{begins_bound, binds_in};
 ghost use Rattle.slotted_certificates.specs.Meaning.{AreTermRows, IsValueIn, IsInstance};
 ghost use Rattle.slotted_certificates.specs.Scopes.{numbering};
 
@@ -138,8 +138,38 @@ fn is_binder(binders: &[usize], operator: usize) -> bool
 }
 
 impl<'a> Making<'a> {
-    // Goes past the end of a term. Returns false if nothing was open.
-    fn end_term(&mut self) -> Result<bool, AllocError>
+    // Returns whether the innermost frame is the scope of a name that is bound in one term with others.
+    fn is_also(&self) -> bool {
+        match self.frames.last() {
+            Some(frame) => match *frame {
+                Frame::Also(_) => true,
+                _ => false,
+            },
+            None => false,
+        }
+    }
+
+    // Ends the scope of a name that is bound in one term with others. Returns false if the innermost frame is none.
+    fn end_also(&mut self) -> Result<bool, AllocError>
+        requires { self.old.scopes ≡ scopes_of (frames self.old.frames.items) }
+        ensures ended { IfOk result (λ b. IsTrue b → EndsScopes (binds_in self.old.binders.now)
+            (IsValueIn (map (λ r. r.items) self.old.values.now)) self.old.row.items self.new.row.items self.old.frames.items self.new.frames.items) }
+        ensures in_step { IfOk result (λ b. IsTrue b → self.new.scopes ≡ scopes_of (frames self.new.frames.items)) }
+        ensures shorter { IfOk result (λ b. IsTrue b → length self.new.frames.items < length self.old.frames.items) }
+        ensures binders { self.new.binders.now ≡ self.old.binders.now }
+        ensures values { self.new.values.now ≡ self.old.values.now }
+    {
+        match self.frames.pop() {
+            Some(Frame::Also(_)) => {
+                self.row.push(Piece::Leave)?;
+                Ok(self.scopes.leave().is_some())
+            }
+            _ => Ok(false),
+        }
+    }
+
+    // Goes past the end of a term that is bound in by one name at most. Returns false if nothing was open.
+    fn end_scope(&mut self) -> Result<bool, AllocError>
         requires { self.old.scopes ≡ scopes_of (frames self.old.frames.items) }
         ensures ended { IfOk result (λ b. IsTrue b → EndsTerm (binds_in self.old.binders.now)
             (IsValueIn (map (λ r. r.items) self.old.values.now)) self.old.row.items self.new.row.items self.old.frames.items self.new.frames.items) }
@@ -158,9 +188,27 @@ impl<'a> Making<'a> {
                 self.row.push(Piece::Leave)?;
                 Ok(self.scopes.leave().is_some())
             }
-            None => Ok(false),
+            _ => Ok(false),
         }
     }
+
+    // Goes past the end of a term. Returns false if nothing was open.
+    fn end_term(&mut self) -> Result<bool, AllocError>
+        requires { self.old.scopes ≡ scopes_of (frames self.old.frames.items) }
+        ensures ended { IfOk result (λ b. IsTrue b → EndsTerm (binds_in self.old.binders.now)
+            (IsValueIn (map (λ r. r.items) self.old.values.now)) self.old.row.items self.new.row.items self.old.frames.items self.new.frames.items) }
+        ensures in_step { IfOk result (λ b. IsTrue b → self.new.scopes ≡ scopes_of (frames self.new.frames.items)) }
+        ensures binders { self.new.binders.now ≡ self.old.binders.now }
+        ensures values { self.new.values.now ≡ self.old.values.now }
+    {
+        while self.is_also() {
+            if !self.end_also()? {
+                return Ok(false);
+            }
+        }
+        self.end_scope()
+    }
+
     // Goes past an operator without arguments.
     fn leaf(&mut self, operator: usize, next: bool) -> Result<bool, AllocError>
         requires { self.old.scopes ≡ scopes_of (frames self.old.frames.items) }
@@ -278,6 +326,24 @@ impl<'a> Making<'a> {
         Ok(true)
     }
 
+    // Goes past a slot that binds in one term with the slot before.
+    fn bind_also(&mut self, slot: usize, before: Frame, next: bool) -> Result<bool, AllocError>
+        requires in_step { scopes_of (frames (self.old.frames.items ++ before ∷ [])) ≡ self.old.scopes }
+        requires scope { IsScope before }
+        ensures passed { IfOk result (λ b. IsTrue b → Passes (binds_in self.old.binders.now)
+            (IsValueIn (map (λ r. r.items) self.old.values.now)) self.old.row.items self.new.row.items
+            (self.old.frames.items ++ before ∷ []) self.new.frames.items (Slot slot) next) }
+        ensures in_step { IfOk result (λ b. IsTrue b → self.new.scopes ≡ scopes_of (frames self.new.frames.items)) }
+        ensures binders { self.new.binders.now ≡ self.old.binders.now }
+        ensures values { self.new.values.now ≡ self.old.values.now }
+    {
+        self.frames.push(before)?;
+        self.frames.push(Frame::Also(slot))?;
+        self.scopes.enter(slot)?;
+        self.row.push(Piece::Scope)?;
+        Ok(true)
+    }
+
     // Goes past a slot.
     fn slot(&mut self, slot: usize, next: bool) -> Result<bool, AllocError>
         requires in_step { self.old.scopes ≡ scopes_of (frames self.old.frames.items) }
@@ -295,6 +361,10 @@ impl<'a> Making<'a> {
                 }
                 self.name(slot, operator, next)
             }
+            Some(Frame::Scope(name, operator)) => {
+                self.bind_also(slot, Frame::Scope(name, operator), next)
+            }
+            Some(Frame::Also(name)) => self.bind_also(slot, Frame::Also(name), next),
             _ => Ok(false),
         }
     }
@@ -331,7 +401,7 @@ impl<'a> Making<'a> {
     {
         match first_of(rest) {
             Some((token, behind)) => {
-                if self.pass(token, begins_with_term(behind))? {
+                if self.pass(token, begins_bound(behind))? {
                     return Ok(Some(behind));
                 }
                 Ok(None)
@@ -387,17 +457,19 @@ pub(crate) fn are_terms(alloc: Global, values: &[Vec<Piece>]) -> Result<bool, Al
     Ok(true)
 }
 
-// Returns whether parts of a text begin with a term.
-fn begins_with_term(tokens: &[Token]) -> bool
-    ensures { result ≡ begins_term tokens.now }
+// Returns whether parts of a text, after slots or none, begin with a term.
+fn begins_bound(tokens: &[Token]) -> bool
+    ensures { result ≡ begins_bound tokens.now }
 {
-    if tokens.is_empty() {
-        return false;
+    let mut rest = tokens;
+    while !rest.is_empty() {
+        match rest[0] {
+            Token::Slot(_) => rest = &rest[1..],
+            Token::Close => return false,
+            _ => return true,
+        }
     }
-    match tokens[0] {
-        Token::Close | Token::Slot(_) => false,
-        _ => true,
-    }
+    false
 }
 
 // Returns what has made nothing yet.

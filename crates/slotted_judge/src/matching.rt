@@ -47,12 +47,15 @@ fn depth_after(piece: Piece, depth: usize) -> usize {
 }
 
 impl Alignment {
-    // Goes past the end of a term, and of the scope that the term stands in.
+    // Goes past the end of a term, and of the scopes that end with the term.
     fn end_term(&mut self, row: &[Piece], end: usize) {
         self.at = end;
-        if row.get(end).copied() == Some(Piece::Leave) {
+        for k in end..row.len() {
+            if row[k] != Piece::Leave {
+                return;
+            }
             let _ = self.scopes.pop();
-            self.at = end.saturating_add(1);
+            self.at = k + 1;
         }
     }
 
