@@ -1,5 +1,5 @@
 //! Data that is read from text and written as text.
-ghost use Rattle.std.specs.Prelude.{◌≡◌, Bool};
+ghost use Rattle.std.specs.Prelude.{◌≡◌};
 
 use slotted_const_fold::Fold;
 use slotted_rules::DataTest;
