@@ -1,5 +1,5 @@
 -- What a graph keeps by its analysis, told by its parts.
-use Rattle.std.proofs.Common.{◌≡◌, ◌<◌, ℕ, List, Bool, true, false, nat_eq, length, map, Some, sym, ◌∙◌, ap, refl, subst, arith, inl, inr}
+use Rattle.std.proofs.Common.{◌≡◌, ◌<◌, ℕ, List, Bool, true, false, nat_eq, length, map, Option, Some, None, sym, ◌∙◌, ap, refl, subst, arith, inl, inr}
 use Rattle.std.proofs.lemmas.Bool.{ltb-true}
 use Rattle.std.proofs.lemmas.Option.{get_or_from_slice_get}
 use Rattle.std.specs.Prelude.{◌↔◌, ◌&&◌, Contains, Result, Ok, Err, IfOk, OnErr, count_by, nat_lt, slice_get}
@@ -8,6 +8,7 @@ use Rattle.std.specs.List.{filter}
 use Rattle.std.specs.List.Sorted.{IsPermutation, IsSorted}
 use Rattle.std.specs.Ordering.{nat_cmp}
 use Rattle.slotted_slots.specs.declared.error.Error.{Error}
+use Rattle.slotted_model.specs.Applied.{Applied}
 use Rattle.slotted_model.specs.Changes.{GoesOn}
 use Rattle.slotted_model.specs.Find.{Entry, find_class}
 use Rattle.slotted_model.specs.Rest.{AtRest}
@@ -31,6 +32,7 @@ use Rattle.slotted_data.proofs.Resting.{rests-proved}
 use Rattle.slotted_data.proofs.TakenData.{row-child, row-within}
 use Rattle.slotted_data.proofs.Telling.{carried-falls, carried-notes, rest-absorbs, rest-has}
 use Rattle.slotted_operations.specs.Causes.{class_found}
+use Rattle.slotted_operations.specs.Explaining.{ProvesIfAlike}
 use Rattle.slotted_operations.specs.Good.{Good, RestsWith, image_of}
 use Rattle.slotted_operations.specs.Graph.{Graph}
 use Rattle.slotted_operations.specs.Image.{Image}
@@ -107,6 +109,12 @@ pub data-checked : {D : Type 0} (meaning : Meaning D) (o : Result ℕ Error) (k 
     OnErr o (l ≡ k) → DataRests (by_bare_nodes meaning) l r d
 data-checked meaning (Ok p) k l r d x good rests h enters same = rests-proved (by_bare_nodes meaning) k l enters.proofs r d enters.kept (at-rest l r good rests) h
 data-checked meaning (Err e) k l r d x good rests h enters same = subst (λ m. DataRests (by_bare_nodes meaning) m r d) (sym same) h
+
+-- an explanation of two ids enters proofs alone
+pub data-proved : {D : Type 0} (meaning : Meaning D) (k l : Kept) (r : Rows) (d : Held D) (a b : Applied) (o : Option ℕ) → ProvesIfAlike k l a b o → Good l → RestsWith l r → DataRests (by_bare_nodes meaning) k r d →
+    DataRests (by_bare_nodes meaning) l r d
+data-proved meaning k l r d a b (Some p) proves good rests h = rests-proved (by_bare_nodes meaning) k l proves.1.only.proofs r d proves.1.only.kept (at-rest l r good rests) h
+data-proved meaning k l r d a b None proves good rests h = subst (λ m. DataRests (by_bare_nodes meaning) m r d) (sym proves.0) h
 
 -- what is kept of an analysis where no class was made and none died
 pub kept-part : {N D : Type 0} (codes : Coded N × Coded D) (meaning : N → Meaning D) (n : N) (m : ℕ) (k : Kept) (r : Rows) (d : Held D) → DataRests (by_bare_nodes (meaning n)) k r d → (l : Kept) → l ≡ k → (e : Held D) →

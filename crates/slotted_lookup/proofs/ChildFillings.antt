@@ -177,18 +177,18 @@ knows-over t (bind u r) xs bs n h g x (inr i) =
 -- the nameless form
 
 -- the id that a child is under binders that ρ numbers
-id-under : (ρ : ℕ → ℕ) (i : ℕ) (ks vs : List ℕ) → length vs ≡ length ks → applied_of ((i ∷ ks) ∷ []) (nameless_args ρ (own_names vs)) ≡ renamed_id ρ (i, zip ks vs)
+pub id-under : (ρ : ℕ → ℕ) (i : ℕ) (ks vs : List ℕ) → length vs ≡ length ks → applied_of ((i ∷ ks) ∷ []) (nameless_args ρ (own_names vs)) ≡ renamed_id ρ (i, zip ks vs)
 id-under ρ i ks vs n = child-applied (λ _. Unit {0}) 0 ((i ∷ ks) ∷ []) (nameless_args ρ (own_names vs)) (renamed_id ρ (i, zip ks vs), atom-is ρ i ks vs n, tt)
 
 -- another child, before the arguments that follow
-child-over : (ρ : ℕ → ℕ) (b : Applied) (r : Tree) (ys : List ℕ) → nameless_args ρ (node_args (child b.0 (keys b.1) r) (values b.1 ++ ys)) ≡ child_before (as_term (renamed_id ρ b)) (nameless_args ρ (node_args r ys))
+pub child-over : (ρ : ℕ → ℕ) (b : Applied) (r : Tree) (ys : List ℕ) → nameless_args ρ (node_args (child b.0 (keys b.1) r) (values b.1 ++ ys)) ≡ child_before (as_term (renamed_id ρ b)) (nameless_args ρ (node_args r ys))
 child-over ρ b r ys =
     let l : length (values b.1) ≡ length (keys b.1) = names_fit b.1 in
     (λ j. sub 0 ((b.0 ∷ keys b.1) ∷ []) (nameless_args ρ (own_names (take_at (values b.1) ys (length (keys b.1)) l j))) (nameless_args ρ (node_args r (drop_at (values b.1) ys (length (keys b.1)) l j))))
     ∙ ap (λ d. child_before d (nameless_args ρ (node_args r ys))) (atom-is ρ b.0 (keys b.1) (values b.1) l ∙ ap (λ m. as_term (renamed_id ρ (b.0, m))) (zip-keys_values b.1))
 
 -- a binder over other children, before the arguments that follow
-binder-over : (ρ : ℕ → ℕ) (x : ℕ) (u r : Tree) (vs ws : List ℕ) → length vs ≡ length (scopes u) → nameless_args ρ (node_args (bind u r) (x ∷ vs ++ ws)) ≡ scope (nameless_args (extend x ρ) (node_args u vs)) (nameless_args ρ (node_args r ws))
+pub binder-over : (ρ : ℕ → ℕ) (x : ℕ) (u r : Tree) (vs ws : List ℕ) → length vs ≡ length (scopes u) → nameless_args ρ (node_args (bind u r) (x ∷ vs ++ ws)) ≡ scope (nameless_args (extend x ρ) (node_args u vs)) (nameless_args ρ (node_args r ws))
 binder-over ρ x u r vs ws l =
     λ i. scope (nameless_args (extend x ρ) (node_args u (take_at vs ws (length (scopes u)) l i))) (nameless_args ρ (node_args r (drop_at vs ws (length (scopes u)) l i)))
 

@@ -35,12 +35,12 @@ length_none : (bs : List Applied) (n : ℕ) → length bs ≡ 0 → (length (tak
 length_none bs n e = (omega (arith, length-take n bs), omega (arith, length-drop n bs))
 
 -- a list with a first name
-first_name : (xs : List ℕ) (n : ℕ) → length xs ≡ suc n → slice_index xs 0 ∷ drop 1 xs ≡ xs
+pub first_name : (xs : List ℕ) (n : ℕ) → length xs ≡ suc n → slice_index xs 0 ∷ drop 1 xs ≡ xs
 first_name [] n h = absurd (omega arith)
 first_name (x ∷ xs) n h = refl
 
 -- over no ids it is as it was
-tree_over-none : (t : Tree) (bs : List Applied) → length bs ≡ 0 → tree_over t bs ≡ t
+pub tree_over-none : (t : Tree) (bs : List Applied) → length bs ≡ 0 → tree_over t bs ≡ t
 tree_over-none leaf bs e = refl
 tree_over-none (own r) bs e = ap own (tree_over-none r bs e)
 tree_over-none (child i ks r) [] e = refl
@@ -49,7 +49,7 @@ tree_over-none (bind u r) bs e =
     let n = length_none bs (length (children u)) e in
     λ i. bind (tree_over-none u (take (length (children u)) bs) n.0 i) (tree_over-none r (drop (length (children u)) bs) n.1 i)
 
-names_over-none : (t : Tree) (xs : List ℕ) (bs : List Applied) → length bs ≡ 0 → length xs ≡ length (scopes t) → names_over t xs bs ≡ xs
+pub names_over-none : (t : Tree) (xs : List ℕ) (bs : List Applied) → length bs ≡ 0 → length xs ≡ length (scopes t) → names_over t xs bs ≡ xs
 names_over-none leaf xs bs e h = refl
 names_over-none (own r) xs bs e h =
     ap (λ ys. slice_index xs 0 ∷ ys) (names_over-none r (drop 1 xs) bs e (own_fits r xs h)) ∙ first_name xs (length (scopes r)) h
@@ -215,18 +215,18 @@ child_ids-over f bs fits e = ids-over f.tree f.names bs fits e
 
 -- over its own children it is as it was
 
-keys-zip : (ks vs : List ℕ) → length vs ≡ length ks → keys (zip ks vs) ≡ ks
+pub keys-zip : (ks vs : List ℕ) → length vs ≡ length ks → keys (zip ks vs) ≡ ks
 keys-zip [] vs h = refl
 keys-zip (k ∷ ks) [] h = absurd (omega arith)
 keys-zip (k ∷ ks) (v ∷ vs) h = ap (λ l. k ∷ l) (keys-zip ks vs (omega arith))
 
-values-zip : (ks vs : List ℕ) → length vs ≡ length ks → values (zip ks vs) ≡ vs
+pub values-zip : (ks vs : List ℕ) → length vs ≡ length ks → values (zip ks vs) ≡ vs
 values-zip [] [] h = refl
 values-zip [] (v ∷ vs) h = absurd (omega arith)
 values-zip (k ∷ ks) [] h = absurd (omega arith)
 values-zip (k ∷ ks) (v ∷ vs) h = ap (λ l. v ∷ l) (values-zip ks vs (omega arith))
 
-tree_over-own : (t : Tree) (xs : List ℕ) → length xs ≡ length (scopes t) → tree_over t (ids_in t xs) ≡ t
+pub tree_over-own : (t : Tree) (xs : List ℕ) → length xs ≡ length (scopes t) → tree_over t (ids_in t xs) ≡ t
 tree_over-own leaf xs h = refl
 tree_over-own (own r) xs h = ap own (tree_over-own r (drop 1 xs) (own_fits r xs h))
 tree_over-own (child i ks r) xs h =
@@ -240,7 +240,7 @@ tree_over-own (bind u r) xs h =
     (λ j. bind (tree_over u (take_at us rs k l j)) (tree_over r (drop_at us rs k l j)))
     ∙ (λ j. bind (tree_over-own u (take n (drop 1 xs)) (bind_inner_fits u r xs h) j) (tree_over-own r (drop n (drop 1 xs)) (bind_rest_fits u r xs h) j))
 
-names_over-own : (t : Tree) (xs : List ℕ) → length xs ≡ length (scopes t) → names_over t xs (ids_in t xs) ≡ xs
+pub names_over-own : (t : Tree) (xs : List ℕ) → length xs ≡ length (scopes t) → names_over t xs (ids_in t xs) ≡ xs
 names_over-own leaf xs h = refl
 names_over-own (own r) xs h = ap (λ ys. slice_index xs 0 ∷ ys) (names_over-own r (drop 1 xs) (own_fits r xs h)) ∙ first_name xs (length (scopes r)) h
 names_over-own (child i ks r) xs h =

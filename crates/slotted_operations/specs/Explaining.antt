@@ -8,6 +8,8 @@
 --     FindsApart g t u    their ids do not find alike
 --     RunsOutForTerms     slots ran out
 --     ProvesIfAlike k l a b       the answer is an entry where the two ids find alike
+--     StandsAt g p e      the entry p has this equation
+--     ExplainsIds         the same of what is kept: it stays good, and nothing but the proof list has changed
 use Rattle.std.specs.Prelude.{◌≡◌, ◌<◌, ◌≤◌, ◌+◌, ◌⊎◌, ◌^◌, ℕ, List, Option, Some, None, IsSome, length}
 use Rattle.slotted_slots.specs.Table.{Table, slot_limit}
 use Rattle.slotted_theory.specs.Term.{Term, term_size}
@@ -16,7 +18,7 @@ use Rattle.slotted_model.specs.Applied.{Applied}
 use Rattle.slotted_model.specs.Changes.{GoesOn}
 use Rattle.slotted_model.specs.Growth.{Extends}
 use Rattle.slotted_model.specs.Ids.{id_of}
-use Rattle.slotted_model.specs.ProofList.{equation_of, equation_at}
+use Rattle.slotted_model.specs.ProofList.{Equation, equation_of, equation_at}
 use Rattle.slotted_classes.specs.Finding.{FindAlike}
 use Rattle.slotted_classes.specs.Kept.{Kept, entries_of, nodes_of}
 use Rattle.slotted_unions.specs.Proving.{ProvesEqual}
@@ -115,3 +117,25 @@ pub data RunsOutForTerms (g : Image) (t u : Term) (old new : Table) : Type 0 whe
 abbrev pub ProvesIfAlike : Kept → Kept → Applied → Applied → Option ℕ → Type 0
 ProvesIfAlike k l a b (Some p) = FindAlike (entries_of k) a b × ProvesEqual k l a b p
 ProvesIfAlike k l a b None = (l ≡ k) × ¬ FindAlike (entries_of k) a b
+
+-- the entry p has this equation
+abbrev pub StandsAt : Image → ℕ → Equation → Type 0
+StandsAt g p e = (p < length g.entries) × (equation_at g.entries p ≡ e)
+
+-- what is said of two ids: an entry with their equation, or that they do not find alike
+abbrev pub AnswersIds : Image → Image → Applied → Applied → Option ℕ → Type 0
+AnswersIds g h a b (Some p) = FoundAlike g a b × StandsAt h p (equation_of a b)
+AnswersIds g h a b None = ¬ FoundAlike g a b
+
+-- the answer on two full ids, beside which the proof list alone has grown, by entries that assert nothing
+pub record ExplainsIds (t : Table) (k : Kept) (r : Rows) (l : Kept) (a b : Applied) (answer : Option ℕ) : Type 0 where
+  pub good : Good l
+  pub rests : RestsWith l r
+  pub fresh_slots : HasFreshSlots t l
+  pub goes_on : GoesOn (state_in k r) (state_in l r)
+  pub adds : AddsTerms (image_of k) (image_of l)
+  pub canonical : nodes_of l ≡ nodes_of k
+  pub found : (image_of l).found ≡ (image_of k).found
+  pub symmetries : (image_of l).symmetries ≡ (image_of k).symmetries
+  pub counts : l.counts ≡ k.counts
+  pub answers : AnswersIds (image_of k) (image_of l) a b answer

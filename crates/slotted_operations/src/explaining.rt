@@ -49,13 +49,13 @@ pub fn explain<L: Language>(
 {
     let a = add_syn_expr(store, nodes, alloc, table, left)?;
     let b = add_syn_expr(store, nodes, alloc, table, right)?;
-    let answer = bridge_if_alike(store, alloc, &a, &b)?;
+    let answer = explain_ids(store, alloc, &a, &b)?;
     compress_paths(store, alloc)?;
     Ok(answer)
 }
 
-// Returns the proof that two full ids are equal, or `None` if they are not found equal.
-fn bridge_if_alike<L: Language>(
+/// Returns the proof that two full ids are equal, or `None` if they are not found equal.
+pub fn explain_ids<L: Language>(
     store: &mut Store<L>,
     alloc: Global,
     a: &AppliedId,

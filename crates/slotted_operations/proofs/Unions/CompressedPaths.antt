@@ -16,7 +16,7 @@ use Rattle.slotted_model.specs.Find.{Entry, find_class, find_map}
 use Rattle.slotted_model.specs.Growth.{Extends}
 use Rattle.slotted_model.specs.Ids.{id_of_node}
 use Rattle.slotted_model.specs.ProofList.{Equation, ProofEntry, asserted, equation_at, equation_of}
-use Rattle.slotted_model.specs.Rest.{AtRest, size, size_from}
+use Rattle.slotted_model.specs.Rest.{AtRest}
 use Rattle.slotted_model.specs.Sound.{Sound}
 use Rattle.slotted_model.specs.State.{State}
 use Rattle.slotted_model.proofs.Rebuilding.Adding.{adds}
@@ -39,7 +39,7 @@ use Rattle.slotted_rebuilding.proofs.RebuildCounts.{counts-same}
 use Rattle.slotted_rebuilding.proofs.FiledStates.{fits-grown, places-grown}
 use Rattle.slotted_operations.specs.Causes.{HasLargeClassIn, IsLargeClass, IsWideClass}
 use Rattle.slotted_operations.specs.Explaining.{Answers, ExplainsTerms, IsIdOfEither, ProvesIfAlike, RunsOutForTerms, large_graph, wide_left, wide_right}
-use Rattle.slotted_operations.specs.Good.{Adds, AddsTerm, Good, MakesClassOf, NeverMore, NotesLast, RestsWith, Unites, finds_from, image_of}
+use Rattle.slotted_operations.specs.Good.{Adds, AddsTerm, Good, MakesClassOf, RestsWith, Unites, finds_from, image_of}
 use Rattle.slotted_operations.specs.Graph.{HasNewClass}
 use Rattle.slotted_operations.specs.Image.{AddsClasses, Asserts, Image, IsIdOfNode, IsUnion, NewClassesAre, asserted_in}
 use Rattle.slotted_operations.proofs.Graphs.Continuations.{adds-classes, finds-on}

@@ -1,4 +1,4 @@
--- What explaining two terms leaves: both are added, and an entry that asserts nothing may be entered.
+-- What explaining two terms leaves: both are added, and an entry that asserts nothing may be entered. And what explaining two ids does.
 use Rattle.std.proofs.Common.{◌≡◌, ◌<◌, ◌+◌, ℕ, [], length, refl, sym, ◌∙◌, ap, subst, arith, inl, inr}
 use Rattle.std.specs.Prelude.{false, IsSome, Option, Some, None, is_some, ◌↔◌}
 use Rattle.std.proofs.lemmas.Bool.{cases_lt, false≢true}
@@ -28,13 +28,13 @@ use Rattle.slotted_hashcons.specs.WellFiled.{state_in}
 use Rattle.slotted_rebuilding.specs.Counted.{CountsGo}
 use Rattle.slotted_rebuilding.proofs.RebuildCounts.{counts-same}
 use Rattle.slotted_operations.specs.Causes.{CanRunOutForTerm, IsUnknownTerm}
-use Rattle.slotted_operations.specs.Explaining.{AddsTerms, HasIds, ExplainsTerms, IsIdOfEither, ProvesIfAlike, RunsOutForTerms, no_slots, large_left, large_right, large_graph, wide_left, wide_right, large_class}
-use Rattle.slotted_operations.specs.Good.{Good, KeepsNotes, RestsWith, AddsTerm, image_of}
+use Rattle.slotted_operations.specs.Explaining.{AddsTerms, AnswersIds, ExplainsIds, HasIds, ExplainsTerms, IsIdOfEither, ProvesIfAlike, RunsOutForTerms, no_slots, large_left, large_right, large_graph, wide_left, wide_right, large_class}
+use Rattle.slotted_operations.specs.Good.{Good, HasFreshSlots, KeepsNotes, RestsWith, AddsTerm, image_of}
 use Rattle.slotted_operations.specs.Graph.{MakesAtMost}
 use Rattle.slotted_operations.specs.Image.{AddsClasses, FoundAlike, IsIdOfSubterm, NewClassesAre}
 use Rattle.slotted_operations.specs.Places.{term_slots}
 use Rattle.slotted_operations.proofs.Graphs.Continuations.{finds-on, alike-on, adds-classes}
-use Rattle.slotted_operations.proofs.Additions.NewClasses.{grown-good, grown-fresh}
+use Rattle.slotted_operations.proofs.Additions.NewClasses.{adds-none, same-goes_on, grown-good, grown-fresh}
 use Rattle.slotted_operations.proofs.Graphs.Images.{adds-then, found_id-is}
 use Rattle.slotted_operations.proofs.Graphs.Notes.{notes-proving, notes-then}
 use Rattle.slotted_operations.proofs.Graphs.AtRest.{proved-rests}
@@ -59,6 +59,52 @@ module _ (k : Kept) (r : Rows) (good : Good k) (rests : RestsWith k r) (l : Kept
 
   proving-alike : (a b : Applied) → IsFull (nodes_of k) a → IsFull (nodes_of k) b → FoundAlike (image_of k) a b → FoundAlike (image_of l) a b
   proving-alike = alike-on k r good l r proving-on
+
+  proving-found : (image_of l).found ≡ (image_of k).found
+  proving-found = ap (λ (z : Kept). (image_of z).found) only.kept
+
+  -- two full ids are explained
+  proving-ids : (t : Table) → HasFreshSlots t k → (a b : Applied) (o : Option ℕ) → AnswersIds (image_of k) (image_of l) a b o → ExplainsIds t k r l a b o
+  proving-ids t fresh a b o answers = record {
+    good = proving-good;
+    rests = proved-rests k l r good rests only;
+    fresh_slots = grown-fresh t k l (only-nodes k l only) fresh;
+    goes_on = proving-on;
+    adds = record { extends = subst (Extends (nodes_of k)) (sym (only-nodes k l only)) (Extends-same (nodes_of k)); adds = proving-adds };
+    canonical = only-nodes k l only;
+    found = proving-found;
+    symmetries = ap (λ (z : Kept). z.symmetries) only.kept;
+    counts = ap (λ (z : Kept). z.counts) only.kept;
+    answers = answers;
+  }
+
+-- what explaining two full ids leaves
+module _ (k : Kept) (r : Rows) (good : Good k) (rests : RestsWith k r) (t : Table) (fresh : HasFreshSlots t k) (a b : Applied) (left : IsFull (nodes_of k) a) (right : IsFull (nodes_of k) b) where
+  in-range : (c : Applied) → IsFull (nodes_of k) c → c.0 < length k.classes
+  in-range c full = let h : c.0 < length (nodes_of k) = full.in_range in let e : length (nodes_of k) ≡ length k.classes = length-nodes_of k in omega arith
+
+  pub ids-alike : (find (entries_of k) a ≡ find (entries_of k) b) ↔ FoundAlike (image_of k) a b
+  ids-alike =
+      let ea = found_id-is k a (in-range a left) in
+      let eb = found_id-is k b (in-range b right) in
+      (λ e. ea ∙ (e ∙ sym eb), λ e. sym ea ∙ (e ∙ eb))
+
+  pub explains-ids : (l : Kept) (answer : Option ℕ) → ProvesIfAlike k l a b answer → ExplainsIds t k r l a b answer
+  explains-ids l (Some p) h =
+      proving-ids k r good rests l h.1.only t fresh a b (Some p)
+      (ids-alike.0 h.0, ((let c : length (proofs_of l) ≡ length l.proofs = length-proofs_of l in let x : p < length l.proofs = h.1.in_range in omega arith), equation_at-of l.proofs p ∙ h.1.equation))
+  explains-ids l None h = subst (λ (z : Kept). ExplainsIds t k r z a b None) (sym h.0) (record {
+    good = good;
+    rests = rests;
+    fresh_slots = fresh;
+    goes_on = same-goes_on k r good rests;
+    adds = record { extends = Extends-same (nodes_of k); adds = adds-none k r good rests };
+    canonical = refl;
+    found = refl;
+    symmetries = refl;
+    counts = refl;
+    answers = λ f. h.1 (ids-alike.1 f);
+  })
 
 -- both terms were added
 module _ (k : Kept) (r : Rows) (good : Good k) (m : Kept) (s : Rows) (n : Kept) (q : Rows) (left right : Term) (t v w : Table) (a b : Applied) (first : AddsTerm t v k r m s left a) (second : AddsTerm v w m s n q right b) where

@@ -2,7 +2,7 @@ use Rattle.std.proofs.Common.{◌∙◌, refl, rules, sym}
 use Rattle.std.proofs.lemmas.Bool.{false≢true}
 use Rattle.slotted_proofs.specs.Equations.{to_applied}
 use Rattle.slotted_operations.proofs.Graphs.Finds.{full-findable}
-use Rattle.slotted_operations.proofs.explaining.bridge_if_alike.Goals as goal
+use Rattle.slotted_operations.proofs.explaining.explain_ids.Goals as goal
 
 pub eq-requires-clause-left : goal.eq-requires-clause-left
 eq-requires-clause-left g c = full-findable c.args.store.now c.requires.good (to_applied c.args.a.now) c.requires.left
