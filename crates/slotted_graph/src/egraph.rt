@@ -50,6 +50,7 @@ mod building;
 mod canonical;
 mod counts;
 mod dump;
+mod explained_ids;
 mod explanations;
 mod extraction;
 mod matching;

@@ -1,23 +1,18 @@
-//! Explanations of two terms, and of two ids.
+//! Explanations of two terms.
 ghost use Rattle.std.specs.Prelude.{◌≡◌, ◌⊎◌, ◌↔◌, ◌+◌, IsTrue, IfOk, IfErr, IsErr, IsErrOf};
 ghost use Rattle.slotted_slots.specs.Error.{IsShortage};
 ghost use Rattle.slotted_slots.specs.Table.{KnowsMore};
 ghost use Rattle.slotted_terms.specs.Valid.{IsValidTerm};
-ghost use Rattle.slotted_model.specs.ProofList.{equation_of};
-ghost use Rattle.slotted_proofs.specs.Equations.{to_applied};
-ghost use Rattle.slotted_operations.specs.Causes.{HasLargeClassOf};
-ghost use Rattle.slotted_operations.specs.Explaining.{AddsTerms, Explains, FilesOnlyTerms, FindsApart, KeepsClasses, KeepsKnown, RunsOutForTerms, StandsAt};
-ghost use Rattle.slotted_operations.specs.Graph.{IsFullId, MakesAtMost};
-ghost use Rattle.slotted_operations.specs.Image.{FoundAlike};
+ghost use Rattle.slotted_operations.specs.Explaining.{AddsTerms, Explains, FilesOnlyTerms, FindsApart, KeepsKnown, RunsOutForTerms};
+ghost use Rattle.slotted_operations.specs.Graph.{MakesAtMost};
 ghost use Rattle.slotted_operations.specs.Places.{term_slots};
 ghost use Rattle.slotted_graph.specs.Analysed.{CarriesData};
 
 use super::EGraph;
 use slotted_analyses::Analysis;
 use slotted_languages::Language;
-use slotted_operations::explaining::explain_ids;
 use slotted_proofs::ProvenEq;
-use slotted_slots::{AppliedId, Error};
+use slotted_slots::Error;
 use slotted_terms::expr::RecExpr;
 use slotted_writes::explaining;
 
@@ -72,44 +67,6 @@ impl<L: Language, N: Analysis<L>> EGraph<L, N> {
             left,
             right,
         )?;
-        self.failed = false;
-        match answer {
-            Some(p) => Ok(p),
-            None => Err(Error::NotEqual),
-        }
-    }
-
-    /// Returns the proof that two full ids are equal: the number of the entry of the proof list that says so.
-    ///
-    /// The ids stand in the entry as they are given, so that a checked step can go on from there. `NotEqual` does not
-    /// fail the graph.
-    pub fn explain_ids(&mut self, a: &AppliedId, b: &AppliedId) -> Result<ProvenEq, Error>
-        requires left { IsTrue self.old.failed ⊎ IsFullId self.old (to_applied a.now) }
-        requires right { IsTrue self.old.failed ⊎ IsFullId self.old (to_applied b.now) }
-
-        // Ids that are equal by `eq` are explained. The answer is `NotEqual` if and only if they are not found equal.
-        ensures explains { IfOk result (λ p. StandsAt self.new.image p (equation_of (to_applied a.now) (to_applied b.now))) }
-        ensures alike { IfOk result (λ _. FoundAlike self.old.image (to_applied a.now) (to_applied b.now)) }
-        ensures not_equal { IsErrOf result Error.NotEqual
-            → ¬ FoundAlike self.old.image (to_applied a.now) (to_applied b.now) }
-
-        // Entries of the proof list are all that is new, and they assert nothing.
-        ensures kept { IsTrue self.new.failed ⊎ KeepsClasses self.old self.new }
-        ensures adds { IsTrue self.new.failed ⊎ AddsTerms self.old.image self.new.image }
-
-        ensures stays { IsTrue self.old.failed → self.new ≡ self.old }
-        ensures failed { IsErrOf result Error.Failed ↔ IsTrue self.old.failed }
-        ensures fails { IsTrue self.new.failed ↔ (IsErr result × ¬ IsErrOf result Error.NotEqual) }
-        ensures full { IsErrOf result Error.OutOfSlots
-            → HasLargeClassOf self.old.image (to_applied a.now) (to_applied b.now) }
-        ensures only { IfErr result (λ e. (e ≡ Error.Failed) ⊎ (e ≡ Error.NotEqual) ⊎ IsShortage e) }
-    {
-        if self.failed {
-            return Err(Error::Failed);
-        }
-        self.failed = true;
-        self.index.clear();
-        let answer = explain_ids(&mut self.store, self.alloc, a, b)?;
         self.failed = false;
         match answer {
             Some(p) => Ok(p),

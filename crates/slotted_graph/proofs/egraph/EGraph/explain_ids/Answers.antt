@@ -4,7 +4,7 @@ use Rattle.slotted_model.specs.Classes.{IsFull}
 use Rattle.slotted_proofs.specs.Equations.{to_applied}
 use Rattle.slotted_operations.specs.Causes.{HasLargeClassOf}
 use Rattle.slotted_operations.specs.Explaining.{AddsTerms, AnswersIds}
-use Rattle.slotted_operations.specs.Graph.{Graph}
+use Rattle.slotted_operations.specs.Good.{image_of}
 use Rattle.slotted_operations.specs.Image.{FoundAlike, Image}
 use Rattle.slotted_operations.proofs.Unions.Explanations.{explains-ids}
 use Rattle.slotted_operations.proofs.Unions.WholeUnions.{large-class_of}
@@ -56,7 +56,7 @@ returns-clause-alike g c =
     let ids = explains-ids k c.self.inside.nodes inside.good inside.rests c.self.inside.table inside.fresh a b left right c.explain_ids.new.store c.in_ok-answer.answer c.in_ok-answer.ensures.ok in
     elim c.match-answer.branch [
       | in-Some w ↦
-          let alike = subst (AnswersIds _ _ a b) w.in-Some.is ids.answers in
+          let alike = subst (AnswersIds (image_of k) (image_of c.explain_ids.new.store) a b) w.in-Some.is ids.answers in
           subst (λ z. IfOk z (λ _. FoundAlike c.args.self.now.image a b)) (sym w.result-is) (subst (λ (x : Image). FoundAlike x a b) inside.image alike.0)
       | in-None w ↦ subst (λ z. IfOk z (λ _. FoundAlike c.args.self.now.image a b)) (sym w.result-is) tt
     ]
@@ -72,7 +72,7 @@ returns-clause-not_equal g c e =
     let ids = explains-ids k c.self.inside.nodes inside.good inside.rests c.self.inside.table inside.fresh a b left right c.explain_ids.new.store c.in_ok-answer.answer c.in_ok-answer.ensures.ok in
     elim c.match-answer.branch [
       | in-Some w ↦ absurd (search (rules, sym w.result-is ∙ e))
-      | in-None w ↦ λ alike. subst (AnswersIds _ _ a b) w.in-None.is ids.answers (subst (λ (x : Image). FoundAlike x a b) (sym inside.image) alike)
+      | in-None w ↦ λ alike. subst (AnswersIds (image_of k) (image_of c.explain_ids.new.store) a b) w.in-None.is ids.answers (subst (λ (x : Image). FoundAlike x a b) (sym inside.image) alike)
     ]
 
 pub returns-clause-adds : goal.returns-clause-adds
@@ -84,4 +84,4 @@ returns-clause-adds g c =
     let left = subst (λ (x : Image). IsFull x.canonical a) (sym inside.image) (given inside.failed c.requires.left).full in
     let right = subst (λ (x : Image). IsFull x.canonical b) (sym inside.image) (given inside.failed c.requires.right).full in
     let ids = explains-ids k c.self.inside.nodes inside.good inside.rests c.self.inside.table inside.fresh a b left right c.explain_ids.new.store c.in_ok-answer.answer c.in_ok-answer.ensures.ok in
-    inr (subst (λ (x : Image). AddsTerms x _) inside.image ids.adds)
+    inr (subst (λ (x : Image). AddsTerms x (image_of c.explain_ids.new.store)) inside.image ids.adds)
