@@ -8,6 +8,8 @@ pub mod FrameStacks
 pub mod SameIds
 pub mod Answering
 pub mod Putting
+pub mod FilledValues
+pub mod FilledInstances
 pub mod Answers
 pub mod Parts
 pub mod BuiltInstances
