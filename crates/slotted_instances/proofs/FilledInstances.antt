@@ -2,10 +2,15 @@
 use Rattle.std.proofs.Common.{◌≡◌, ap, refl, sym, subst, inl, inr, ℕ, suc, List, [], ◌∷◌, ◌++◌, map, arith}
 use Rattle.std.specs.Prelude.{◌⊎◌, Bool, true, false, Contains, IsTrue, Some, cond}
 use Rattle.std.proofs.lemmas.Bool.{cases_eq}
-use Rattle.std.proofs.lemmas.List.Elements.{Contains-append_right}
+use Rattle.std.proofs.lemmas.List.Elements.{All-contains, Contains-append_right}
 use Rattle.std.proofs.Math.Nat.{suc_inj}
 use Rattle.slotted_slots.specs.Maps.{values}
 use Rattle.slotted_slots.specs.Table.{AllKnown, Table, is_known}
+use Rattle.slotted_nodes.specs.Form.{Form}
+use Rattle.slotted_languages.specs.Shape.{Fits}
+use Rattle.slotted_patterns.specs.Known.{HasKnownNames}
+use Rattle.slotted_patterns.specs.View.{tree_of}
+use Rattle.slotted_patterns.specs.declared.pattern.Pattern as written
 use Rattle.slotted_theory.specs.Decided.{numbers_eq}
 use Rattle.slotted_theory.specs.FiniteMaps.{with_values}
 use Rattle.slotted_theory.specs.Nameless.{DArgs, DTerm, extend}
@@ -13,7 +18,9 @@ use Rattle.slotted_theory.specs.Renaming.{IsInjective}
 use Rattle.slotted_theory.proofs.Lists.{contains_cases, contains_head, Contains-map, Contains-of_map}
 use Rattle.slotted_theory.proofs.Names.{extend-injective, extend-other}
 use Rattle.slotted_model.specs.Applied.{Applied, renamed_id}
+use Rattle.slotted_model.specs.Classes.{term_of}
 use Rattle.slotted_model.specs.Filling.{IsFilling}
+use Rattle.slotted_model.specs.ProofList.{Equation}
 use Rattle.slotted_model.proofs.Data.Maps.{keys-with_values}
 use Rattle.slotted_model.proofs.Represented.Fillings.{filling-iff}
 use Rattle.slotted_model.proofs.Represented.Full.{full-renamed}
@@ -21,22 +28,11 @@ use Rattle.slotted_model_rules.specs.Conditions.{Values}
 use Rattle.slotted_model_rules.specs.Instances.{IsInstance, IsInstanceArgs}
 use Rattle.slotted_model_rules.specs.Matcher.{value_at}
 use Rattle.slotted_model_rules.specs.Patterns.{Pattern, PatternArgs, pattern_node, variable, replacing, no_argument, own_name, child_pattern, binding}
-use Rattle.slotted_model_rules.specs.Rules.{id_or_none, valued}
+use Rattle.slotted_model_rules.specs.Rules.{IsEquationOfInstances, Rule, id_or_none, valued}
+use Rattle.slotted_rule_patterns.specs.PatternCode.{pattern_in}
 use Rattle.slotted_instances.specs.Filled.{FillsBeside, FillsValues}
 use Rattle.slotted_instances.specs.Putting.{FillsUnknown}
-
-abbrev mutual
-  -- the table knows the name of each binder
-  pub HasKnownBinders : Table → Pattern → Type 0
-  HasKnownBinders t (pattern_node op payloads args) = HaveKnownBinders t args
-  HasKnownBinders t (variable v) = Unit {0}
-  HasKnownBinders t (replacing body part value) = HasKnownBinders t body × HasKnownBinders t part × HasKnownBinders t value
-
-  pub HaveKnownBinders : Table → PatternArgs → Type 0
-  HaveKnownBinders t no_argument = Unit {0}
-  HaveKnownBinders t (own_name x rest) = HaveKnownBinders t rest
-  HaveKnownBinders t (child_pattern p rest) = HasKnownBinders t p × HaveKnownBinders t rest
-  HaveKnownBinders t (binding x inner rest) = IsTrue (is_known t x) × HaveKnownBinders t inner × HaveKnownBinders t rest
+use Rattle.slotted_instances.proofs.KnownBinders.{HasKnownBinders, HaveKnownBinders, known-binders}
 
 module _ (R : DTerm → DTerm → Bool) (t : Table) (nodes : List DTerm) where
   -- the value of a variable, if it has one, gets its missing names
@@ -135,3 +131,19 @@ module _ (R : DTerm → DTerm → Bool) (t : Table) (nodes : List DTerm) where
         filled-arguments (extend x ρ) (0 ∷ map suc given) (extend-injective x ρ inj) (known-inside ρ given x known.0 from) inner known.1 i.0 i.3,
         filled-arguments ρ given inj from rest known.2 i.1 i.4,
       )
+
+  -- so is an equation of instances
+  pub filled-equation : {L : Type 0} (form : L → Form) → ((n : L) → Fits (form n)) → (s f : Values) → FillsValues t nodes [] s f → (given : List ℕ) → AllKnown t given → (left right : written.Pattern L) → HasKnownNames t (tree_of form left) → HasKnownNames t (tree_of form right) →
+      (rule : Rule) → pattern_in (tree_of form left) ≡ Some rule.left → pattern_in (tree_of form right) ≡ Some rule.right → (e : Equation) → IsEquationOfInstances R given nodes rule f e → IsEquationOfInstances R given nodes rule s e
+  filled-equation form fits s f fills given all left right known_left known_right rule is_left is_right e i =
+      let from : KnownFrom (λ y. y) given = λ y c. All-contains (λ z. IsTrue (is_known t z)) given y all c in
+      let inj : IsInjective (λ y. y) = λ x y same. same in
+      record {
+        left = i.left;
+        right = i.right;
+        left_full = i.left_full;
+        right_full = i.right_full;
+        equation = i.equation;
+        left_instance = filled-instance s f fills (λ y. y) given inj from rule.left (known-binders t form fits left rule.left is_left known_left) (term_of nodes i.left) i.left_instance;
+        right_instance = filled-instance s f fills (λ y. y) given inj from rule.right (known-binders t form fits right rule.right is_right known_right) (term_of nodes i.right) i.right_instance;
+      }

@@ -9,6 +9,7 @@ pub mod SameIds
 pub mod Answering
 pub mod Putting
 pub mod FilledValues
+pub mod KnownBinders
 pub mod FilledInstances
 pub mod Answers
 pub mod Parts
