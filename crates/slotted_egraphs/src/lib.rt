@@ -13,6 +13,7 @@ pub mod slot_map;
 pub use slotted_analyses::Analysis;
 pub use slotted_analyses::Edit;
 pub use slotted_classes::RebuildCount;
+pub use slotted_deciding::decide;
 pub use slotted_explain::Check;
 pub use slotted_explain::EGraph;
 pub use slotted_explain::Explanation;

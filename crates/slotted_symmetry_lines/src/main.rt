@@ -2,12 +2,15 @@
 //!
 //! `union T == U` answers `true` if the terms were not equal, and unites them. `eq T == U` answers whether the ids of
 //! both terms are found equal. `same T == U` answers whether these ids are equal up to symmetries. `symmetries` answers
-//! how many symmetries were met, and how many of them are open. Any other line is answered by an error.
+//! how many symmetries were met, and how many of them are open. `decide` decides the graph, and answers `decided`, or
+//! `open` if more than a thousand e-nodes are missing. `asserted` answers how many equations were asserted. Any other line
+//! is answered by an error.
 //!
 //! A line `---` stands between two sessions, and each session has a graph of its own. A line that begins with `# ` is a
 //! title. Both are written as they stand.
 #![tactic(auto)]
 
+use slotted_deciding::decide;
 use slotted_graph::EGraph;
 use slotted_slots::{AppliedId, Error, SlotTable};
 use slotted_small::Small;
@@ -15,6 +18,9 @@ use slotted_symmetries::is_equal_up_to_symmetries;
 use std::alloc::Global;
 use std::io;
 use std::io::ErrorKind;
+
+// How many e-nodes `decide` adds at most.
+const LIMIT: usize = 1000;
 
 // Adds the term of a text by look-up, and returns its id.
 fn add(graph: &mut EGraph<Small>, text: &str) -> Result<AppliedId, Error> {
@@ -61,6 +67,18 @@ fn counts(alloc: Global, graph: &EGraph<Small>) -> Result<String, Error> {
     Ok(format!(in alloc; "{met} {open}")?)
 }
 
+// Decides the graph, and returns whether it is decided.
+fn decided(alloc: Global, graph: &mut EGraph<Small>) -> Result<&'static str, Error> {
+    let is_decided = decide(alloc, graph, LIMIT)?;
+    Ok(if is_decided { "decided" } else { "open" })
+}
+
+// Returns how many equations were asserted.
+fn asserted(alloc: Global, graph: &EGraph<Small>) -> Result<String, Error> {
+    let count = graph.asserted().len();
+    Ok(format!(in alloc; "{count}")?)
+}
+
 // Returns an answer as text.
 fn told(word: &str, holds: bool) -> &'static str {
     match (word, holds) {
@@ -73,8 +91,11 @@ fn told(word: &str, holds: bool) -> &'static str {
 
 // Returns the answer to a line.
 fn answer(alloc: Global, graph: &mut EGraph<Small>, line: &str) -> Result<String, Error> {
-    if line == "symmetries" {
-        return counts(alloc, graph);
+    match line {
+        "symmetries" => return counts(alloc, graph),
+        "asserted" => return asserted(alloc, graph),
+        "decide" => return Ok(String::from_str(alloc, decided(alloc, graph)?)?),
+        _ => {}
     }
     let (word, texts) = line.split_once(" ").unwrap_or((line, ""));
     let holds = answer_of_texts(alloc, graph, word, texts)?;

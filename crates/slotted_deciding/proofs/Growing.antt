@@ -1,0 +1,107 @@
+-- What stays as slots are taken, and as entries are added.
+use Rattle.std.proofs.Common.{◌≡◌, ◌<◌, ◌∙◌, ℕ, length, ap, refl, subst, sym}
+use Rattle.std.specs.Prelude.{All, Result, Ok, Err, OnOk}
+use Rattle.slotted_slots.specs.Table.{KnowsMore, Table}
+use Rattle.slotted_nodes.specs.Form.{Form}
+use Rattle.slotted_model.specs.Classes.{IsFull}
+use Rattle.slotted_model_symmetries.specs.Deciding.{IsDecided}
+use Rattle.slotted_classes.specs.ChildIds.{child_ids}
+use Rattle.slotted_classes.specs.Kept.{nodes_of}
+use Rattle.slotted_operations.specs.Canonical.{IsNodeOf}
+use Rattle.slotted_operations.specs.Explaining.{AddsTerms, KeepsClasses}
+use Rattle.slotted_operations.specs.Graph.{Graph, OnlyTakesSlots}
+use Rattle.slotted_operations.specs.Image.{Image, asserted_in, found_id}
+use Rattle.slotted_operations.specs.LookUp.{look_up}
+use Rattle.slotted_operations.proofs.Graphs.FreshSlots.{fresh_slots-more}
+use Rattle.slotted_graph.specs.States.{IsGraph}
+use Rattle.slotted_graph.proofs.Extending.{extends-added, extends-itself, extends-takes, extends-then}
+use Rattle.slotted_symmetries.specs.Equality.{EqualUpTo, IsDecidedGraph, IsTwist}
+use Rattle.slotted_deciding.specs.Settling.{ClassIsSettled, IsLookedUpAs, child_at, with_child_at}
+use Rattle.slotted_deciding.specs.Steps.{GoesTo}
+use Rattle.slotted_deciding.proofs.Settled.{settled-decided}
+
+-- fresh slots leave a graph one
+pub graph-takes : (g h : Graph) → IsGraph g → OnlyTakesSlots g h → IsGraph h
+graph-takes g h is takes =
+    let s = is.is_state in
+    record {
+      well = takes.reads.failed ∙ is.well;
+      state = is.state;
+      is_state = record {
+        kept = s.kept;
+        rows = s.rows;
+        good = s.good;
+        rests = s.rests;
+        fresh = fresh_slots-more g.table h.table s.kept takes.reads.more s.fresh;
+        image = s.image ∙ sym takes.reads.image;
+        filed = s.filed ∙ sym takes.reads.filed;
+        state = s.state;
+      };
+    }
+
+pub takes-then : (f g h : Graph) → OnlyTakesSlots f g → OnlyTakesSlots g h → OnlyTakesSlots f h
+takes-then f g h d e = record {
+  reads = record {
+    image = e.reads.image ∙ d.reads.image;
+    filed = e.reads.filed ∙ d.reads.filed;
+    part = e.reads.part ∙ d.reads.part;
+    failed = e.reads.failed ∙ d.reads.failed;
+    more = λ s k. e.reads.more s (d.reads.more s k);
+  };
+  names = e.names ∙ d.names;
+}
+
+-- a class stays settled where only slots are taken
+pub class-later : (g h : Graph) (i : ℕ) → h.image ≡ g.image → h.filed ≡ g.filed → ClassIsSettled g i → ClassIsSettled h i
+class-later g h i image filed c = record {
+  id = c.id;
+  node = c.node;
+  class = c.class;
+  full = subst (λ (x : Image). IsFull x.canonical c.id) (sym image) c.full;
+  is_node = subst (λ (x : Image). IsNodeOf x.canonical c.id c.node) (sym image) c.is_node;
+  fits = c.fits;
+  children_full = subst (λ (x : Image). All (IsFull x.canonical) (child_ids c.node)) (sym image) c.children_full;
+  settled = λ k l d t.
+      let f : Form = with_child_at c.node k d in
+      let r : IsLookedUpAs g c.id f = c.settled k l d (subst (λ (x : Image). IsTwist x (found_id x (child_at c.node k)) d) image t) in
+      record {
+        answer = r.answer;
+        looked_up = (λ j. look_up (record h { image = image j; filed = filed j }) f) ∙ r.looked_up;
+        equal = subst (λ (x : Image). EqualUpTo x r.answer c.id) (sym image) r.equal;
+      };
+}
+
+-- where only slots are taken nothing is asserted
+pub goes-takes : (g h : Graph) → IsGraph g → OnlyTakesSlots g h → GoesTo g h
+goes-takes g h is takes = record { graph = graph-takes g h is takes; extends = extends-takes g h takes; asserted = ap asserted_in takes.reads.image }
+
+pub goes-itself : (g : Graph) → IsGraph g → GoesTo g g
+goes-itself g is = record { graph = is; extends = extends-itself g; asserted = refl }
+
+pub goes-then : (f g h : Graph) → GoesTo f g → GoesTo g h → GoesTo f h
+goes-then f g h d e = record { graph = e.graph; extends = extends-then f g h d.extends e.extends; asserted = e.asserted ∙ d.asserted }
+
+-- entries that assert nothing
+pub goes-adds : (g h : Graph) → IsGraph h → AddsTerms g.image h.image → KnowsMore g.table h.table → GoesTo g h
+goes-adds g h is adds more = record { graph = is; extends = extends-added g h adds.extends adds.adds more; asserted = adds.adds.asserted }
+
+-- a settled graph is decided
+pub all-decided : (g : Graph) → IsGraph g → ((i : ℕ) → i < length g.image.canonical → ClassIsSettled g i) → IsDecidedGraph g
+all-decided g is settled =
+    let s = is.is_state in
+    let each : (i : ℕ) → i < length (nodes_of s.kept) → ClassIsSettled g i =
+    λ i l. settled i (subst (λ (x : Image). i < length x.canonical) s.image l) in
+    (is.state, s, subst IsDecided (sym s.state) (settled-decided s.kept s.rows s.good s.rests g s.image s.filed each))
+
+-- what holds of each result does so of the good ones
+pub on_ok : {A E : Type 0} (r : Result A E) {P : Type 0} → P → OnOk r P
+on_ok (Ok x) p = p
+on_ok (Err e) p = tt
+
+pub on_ok_by : {A E : Type 0} (r : Result A E) {P Q : Type 0} → (P → Q) → OnOk r P → OnOk r Q
+on_ok_by (Ok x) f p = f p
+on_ok_by (Err e) f p = tt
+
+-- an explanation of two ids enters proofs alone
+pub goes-explained : (g h : Graph) → IsGraph h → KeepsClasses g h → AddsTerms g.image h.image → GoesTo g h
+goes-explained g h is keeps adds = goes-adds g h is adds (subst (λ (t : Table). KnowsMore g.table t) (sym keeps.table) (λ s k. k))

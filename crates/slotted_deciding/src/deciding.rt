@@ -1,0 +1,69 @@
+//! Deciding a graph.
+ghost use Rattle.std.specs.Prelude.{◌≡◌, ◌⊎◌, ◌↔◌, [], IfErr, IfOk, IsErrOf, IsNone, IsTrue, OnOk};
+ghost use Rattle.slotted_graph.specs.States.{IsGraph};
+ghost use Rattle.slotted_symmetries.specs.Equality.{IsDecidedGraph};
+ghost use Rattle.slotted_deciding.specs.Steps.{CanRefuse, GoesTo};
+
+use crate::settling::{Missing, first_missing};
+use crate::uniting::unite_missing;
+use slotted_analyses::Analysis;
+use slotted_graph::EGraph;
+use slotted_languages::Language;
+use slotted_slots::Error;
+use std::alloc::Global;
+
+// Returns what the graph lacks, beginning with this class and going round.
+fn any_missing<L: Language, N: Analysis<L>>(
+    alloc: Global,
+    graph: &mut EGraph<L, N>,
+    first: usize,
+) -> Result<Option<Missing<L>>, Error>
+    requires graph { IsGraph graph.old }
+    ensures none { IfOk result (λ o. IsNone o → IsDecidedGraph graph.new) }
+    ensures goes { OnOk result (GoesTo graph.old graph.new) }
+    ensures err { IfErr result CanRefuse }
+{
+    if let Some(missing) = first_missing(alloc, graph, first)? {
+        return Ok(Some(missing));
+    }
+    first_missing(alloc, graph, 0)
+}
+
+/// Decides the symmetries of a graph: adds each e-node that it lacks, and unites it, until none is missing or `limit`
+/// e-nodes were united. Returns whether the graph is decided.
+///
+/// Then `is_equal_up_to_symmetries` says yes to two ids if and only if their terms are derivably equal. Nothing is
+/// asserted: each union is of an equation that a checked step proved. Classes are not modified, and what was made waits
+/// to be modified.
+pub fn decide<L: Language, N: Analysis<L>>(
+    alloc: Global,
+    graph: &mut EGraph<L, N>,
+    limit: usize,
+) -> Result<bool, Error>
+    ensures decided { IfOk result (λ y. IsTrue y → IsDecidedGraph graph.new) }
+
+    // A graph that met no symmetry is decided as it is.
+    ensures none_met { graph.old.image.symmetries ≡ [] → IfOk result IsTrue × (graph.new ≡ graph.old) }
+
+    // What was there stays, and nothing is asserted.
+    ensures goes { OnOk result (GoesTo graph.old graph.new) }
+
+    ensures failed { IsErrOf result Error.Failed ↔ IsTrue graph.old.failed }
+    ensures only { IfErr result (λ e. (e ≡ Error.Failed) ⊎ CanRefuse e) }
+{
+    if graph.is_failed() {
+        return Err(Error::Failed);
+    }
+    if graph.symmetries_met().is_empty() {
+        return Ok(true);
+    }
+    let mut first = 0;
+    for _ in 0..limit {
+        let Some(missing) = any_missing(alloc, graph, first)? else {
+            return Ok(true);
+        };
+        first = missing.id.id.0;
+        unite_missing(alloc, graph, &missing)?;
+    }
+    Ok(any_missing(alloc, graph, 0)?.is_none())
+}

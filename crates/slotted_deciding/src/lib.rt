@@ -1,0 +1,13 @@
+//! Graphs that decide symmetries.
+//!
+//! Where a class equals itself with its slots in another order, a graph lacks what follows for e-nodes over this class.
+//! To decide the graph is to add each such e-node, with one child twisted by a symmetry, and to unite it with the
+//! e-node that it equals.
+#![tactic(auto)]
+
+pub mod deciding;
+pub mod settling;
+pub(crate) mod stepping;
+pub mod uniting;
+
+pub use deciding::decide;

@@ -1,0 +1,215 @@
+//! Checked steps: two ids that are found equal, and two ids that a symmetry makes equal.
+ghost use Rattle.std.specs.Prelude.{◌≡◌, ◌⊎◌, IfErr, IfOk, IsTrue, OnOk};
+ghost use Rattle.slotted_model.specs.ProofList.{equation_of};
+ghost use Rattle.slotted_proofs.specs.Equations.{to_applied};
+ghost use Rattle.slotted_operations.specs.Explaining.{StandsAt};
+ghost use Rattle.slotted_graph.specs.States.{IsGraph};
+ghost use Rattle.slotted_deciding.specs.Steps.{CanRefuse, GoesTo};
+
+use slotted_analyses::Analysis;
+use slotted_graph::{Check, EGraph};
+use slotted_languages::Language;
+use slotted_proofs::{Equation, ProvenEq, SymmetryProof, TransitivityProof};
+use slotted_slots::{AppliedId, Error, SlotMap};
+use std::alloc::Global;
+
+/// Returns the number of an equation that a step proves.
+pub(crate) fn checked<L: Language, N: Analysis<L>, S: Check>(
+    graph: &mut EGraph<L, N>,
+    step: &S,
+    equation: &Equation,
+) -> Result<ProvenEq, Error>
+    requires graph { IsGraph graph.old }
+    ensures goes { OnOk result (GoesTo graph.old graph.new) }
+    ensures stands { IfOk result (λ p. StandsAt graph.new.image p
+        (equation_of (to_applied equation.now.l) (to_applied equation.now.r))) }
+    ensures err { IfErr result CanRefuse }
+{
+    let proof = step.check(equation, graph)?;
+    let _ = graph.is_failed();
+    Ok(proof)
+}
+
+/// Returns the proof that two ids are equal that are found equal.
+pub(crate) fn explained<L: Language, N: Analysis<L>>(
+    graph: &mut EGraph<L, N>,
+    a: &AppliedId,
+    b: &AppliedId,
+) -> Result<ProvenEq, Error>
+    requires graph { IsGraph graph.old }
+    ensures goes { OnOk result (GoesTo graph.old graph.new) }
+    ensures stands { IfOk result (λ p. StandsAt graph.new.image p (equation_of (to_applied a.now) (to_applied b.now))) }
+    ensures err { IfErr result CanRefuse }
+{
+    if !graph.is_full(a) {
+        return Err(Error::BadStep);
+    }
+    if !graph.is_full(b) {
+        return Err(Error::BadStep);
+    }
+    let proof = graph.explain_ids(a, b)?;
+    let _ = graph.is_failed();
+    Ok(proof)
+}
+
+// Adds a fresh slot for each name of a map that has none yet.
+fn add_fresh<L: Language, N: Analysis<L>>(
+    graph: &mut EGraph<L, N>,
+    names: &mut SlotMap,
+    m: &SlotMap,
+) -> Result<(), Error>
+    requires graph { IsGraph graph.old }
+    ensures goes { OnOk result (GoesTo graph.old graph.new) }
+    ensures err { IfErr result CanRefuse }
+{
+    for i in 0..m.len() {
+        let name = m.value_at(i);
+        if !names.contains_key(name) {
+            let fresh = graph.fresh_slot()?;
+            names.insert(name, fresh)?;
+        }
+    }
+    Ok(())
+}
+
+// Returns the map that takes the names of the one found id to those of the other, place by place.
+fn renaming(alloc: Global, from: &SlotMap, to: &SlotMap) -> Result<SlotMap, Error>
+    ensures err { IfErr result CanRefuse }
+{
+    if from.len() != to.len() {
+        return Err(Error::BadStep);
+    }
+    let mut names = SlotMap::new(alloc);
+    for i in 0..from.len() {
+        names.insert(from.value_at(i), to.value_at(i))?;
+    }
+    Ok(names)
+}
+
+// Returns the renaming after which the left side of an equation finds what an id finds. Each other name of the two
+// sides goes to a fresh slot.
+fn names_for<L: Language, N: Analysis<L>>(
+    alloc: Global,
+    graph: &mut EGraph<L, N>,
+    sides: &Equation,
+    id: &AppliedId,
+) -> Result<SlotMap, Error>
+    requires graph { IsGraph graph.old }
+    ensures goes { OnOk result (GoesTo graph.old graph.new) }
+    ensures err { IfErr result CanRefuse }
+{
+    if !graph.is_valid(&sides.l) {
+        return Err(Error::BadStep);
+    }
+    if !graph.is_valid(id) {
+        return Err(Error::BadStep);
+    }
+    let from = graph.find_applied_id(&sides.l)?;
+    let to = graph.find_applied_id(id)?;
+    let mut names = renaming(alloc, &from.m, &to.m)?;
+    add_fresh(graph, &mut names, &sides.l.m)?;
+    add_fresh(graph, &mut names, &sides.r.m)?;
+    Ok(names)
+}
+
+// Returns the equation with other names.
+fn renamed(alloc: Global, sides: &Equation, names: &SlotMap) -> Result<Equation, Error>
+    ensures err { IfErr result CanRefuse }
+{
+    let l = AppliedId {
+        id: sides.l.id,
+        m: sides.l.m.compose_partial(alloc, names)?,
+    };
+    let r = AppliedId {
+        id: sides.r.id,
+        m: sides.r.m.compose_partial(alloc, names)?,
+    };
+    Ok(Equation { l, r })
+}
+
+// Returns the equation of a symmetry, or this turned round.
+fn sides_of<L: Language, N: Analysis<L>>(
+    alloc: Global,
+    graph: &EGraph<L, N>,
+    symmetry: usize,
+    forwards: bool,
+) -> Result<Equation, Error>
+    ensures err { IfErr result CanRefuse }
+{
+    let Some(symmetry) = graph.symmetries_met().get(symmetry) else {
+        return Err(Error::BadStep);
+    };
+    let Equation { l, r } = symmetry.equation.copy(alloc)?;
+    if forwards {
+        return Ok(Equation { l, r });
+    }
+    Ok(Equation { l: r, r: l })
+}
+
+// Returns the proof of the equation of a symmetry under other names, or of this turned round.
+fn proof_of<L: Language, N: Analysis<L>>(
+    graph: &mut EGraph<L, N>,
+    symmetry: usize,
+    forwards: bool,
+    sides: &Equation,
+) -> Result<ProvenEq, Error>
+    requires graph { IsGraph graph.old }
+    ensures goes { OnOk result (GoesTo graph.old graph.new) }
+    ensures err { IfErr result CanRefuse }
+{
+    let Some(symmetry) = graph.symmetries_met().get(symmetry) else {
+        return Err(Error::BadStep);
+    };
+    let proof = symmetry.proof;
+    if forwards {
+        return Ok(proof);
+    }
+    checked(graph, &SymmetryProof(proof), sides)
+}
+
+// Returns the proof of an equation by three proofs: its left side equals the left side of the middle equation, the
+// middle one holds, and its right side equals the right side of the equation.
+fn joined<L: Language, N: Analysis<L>>(
+    alloc: Global,
+    graph: &mut EGraph<L, N>,
+    equation: &Equation,
+    middle: &Equation,
+    proofs: (ProvenEq, ProvenEq, ProvenEq),
+) -> Result<ProvenEq, Error>
+    requires graph { IsGraph graph.old }
+    ensures goes { OnOk result (GoesTo graph.old graph.new) }
+    ensures stands { IfOk result (λ p. StandsAt graph.new.image p
+        (equation_of (to_applied equation.now.l) (to_applied equation.now.r))) }
+    ensures err { IfErr result CanRefuse }
+{
+    let half = Equation {
+        l: equation.l.copy(alloc)?,
+        r: middle.r.copy(alloc)?,
+    };
+    let first = checked(graph, &TransitivityProof(proofs.0, proofs.1), &half)?;
+    checked(graph, &TransitivityProof(first, proofs.2), equation)
+}
+
+/// Returns the proof of an equation by a symmetry: the sides of the equation find what those of the symmetry find, under
+/// one renaming.
+pub(crate) fn step_by<L: Language, N: Analysis<L>>(
+    alloc: Global,
+    graph: &mut EGraph<L, N>,
+    symmetry: usize,
+    forwards: bool,
+    equation: &Equation,
+) -> Result<ProvenEq, Error>
+    requires graph { IsGraph graph.old }
+    ensures goes { OnOk result (GoesTo graph.old graph.new) }
+    ensures stands { IfOk result (λ p. StandsAt graph.new.image p
+        (equation_of (to_applied equation.now.l) (to_applied equation.now.r))) }
+    ensures err { IfErr result CanRefuse }
+{
+    let sides = sides_of(alloc, graph, symmetry, forwards)?;
+    let names = names_for(alloc, graph, &sides, &equation.l)?;
+    let middle = renamed(alloc, &sides, &names)?;
+    let there = explained(graph, &equation.l, &middle.l)?;
+    let back = explained(graph, &middle.r, &equation.r)?;
+    let proof = proof_of(graph, symmetry, forwards, &middle)?;
+    joined(alloc, graph, equation, &middle, (there, proof, back))
+}
