@@ -1,8 +1,10 @@
+use Rattle.slotted_graph.proofs.Extending.{extends-itself, extends-then}
 use Rattle.std.proofs.Common.{inr}
 use Rattle.slotted_patterns.specs.View.{tree_of}
 use Rattle.slotted_proofs.specs.Equations.{to_applied}
 use Rattle.slotted_rule_patterns.specs.Values.{values_of}
 use Rattle.slotted_classes.specs.Kept.{text_bytes}
+use Rattle.slotted_instances.proofs.Carrying.{carries-itself, carries-on, later-carries, written-carries}
 use Rattle.slotted_instances.proofs.Parts.{known-later}
 use Rattle.slotted_instances.proofs.UnitedInstances.{ok-united}
 use Rattle.slotted_instances.proofs.uniting.unite.Goals as goal
@@ -23,3 +25,19 @@ returns-clause-unites g c =
     ok-united c.subst_method-method.result c.args.graph.now c.build_stored.new.graph c.build_stored-2.new.graph c.union_quietly-answer.new.self (values_of c.args.subst.now) (tree_of form c.args.a.now) (tree_of form c.args.b.now)
     c.in_ok-left.left c.in_ok-right.right (text_bytes c.args.text) c.requires.graph c.in_ok-left.ensures.ok c.in_ok-right.ensures.ok
     c.union_quietly-answer.result c.is_failed.ensures.rests c.union_quietly-answer.ensures.fails.0 c.union_quietly-answer.ensures.union c.union_quietly-answer.ensures.text c.union_quietly-answer.ensures.table
+
+pub returns-in_err-right-clause-carries : goal.returns-in_err-right-clause-carries
+returns-in_err-right-clause-carries g c = later-carries g.N.Analysis.codes g.N.Analysis.meaning g.met.N.Analysis.is_merge c.args.graph.now c.build_stored.new.graph c.build_stored-2.new.graph c.in_ok-left.ensures.ok.grows.extends (carries-on g.N.Analysis.codes g.N.Analysis.meaning g.met.N.Analysis.is_merge c.args.graph.now c.args.graph.now c.build_stored.new.graph (extends-itself c.args.graph.now) (carries-itself g.N.Analysis.codes g.N.Analysis.meaning g.met.N.Analysis.is_merge c.args.graph.now) c.in_ok-left.ensures.ok.grows.graph.well c.build_stored.ensures.carries) c.build_stored-2.ensures.carries
+
+pub returns-clause-carries : goal.returns-clause-carries
+returns-clause-carries g c =
+    let g0 = c.args.graph.now in
+    let e = c.build_stored.new.graph in
+    let f = c.build_stored-2.new.graph in
+    let h = c.union_quietly-answer.new.self in
+    let left = c.in_ok-left.ensures.ok.grows in
+    let right = c.in_ok-right.ensures.ok.grows in
+    let first = carries-on g.N.Analysis.codes g.N.Analysis.meaning g.met.N.Analysis.is_merge g0 g0 e (extends-itself g0) (carries-itself g.N.Analysis.codes g.N.Analysis.meaning g.met.N.Analysis.is_merge g0) left.graph.well c.build_stored.ensures.carries in
+    let both = carries-on g.N.Analysis.codes g.N.Analysis.meaning g.met.N.Analysis.is_merge g0 e f left.extends first right.graph.well c.build_stored-2.ensures.carries in
+    later-carries g.N.Analysis.codes g.N.Analysis.meaning g.met.N.Analysis.is_merge g0 f h (extends-then g0 e f left.extends right.extends) both
+    (written-carries g.N.Analysis.codes g.N.Analysis.meaning c.union_quietly-answer.result f h c.union_quietly-answer.ensures.fails.1 c.union_quietly-answer.ensures.carries)
