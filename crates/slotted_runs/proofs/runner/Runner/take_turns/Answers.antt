@@ -20,7 +20,7 @@ use Rattle.slotted_runs.proofs.runner.Runner.take_turns.Goals as goal
 pub loop-self-init : goal.loop-self-init
 loop-self-init g c = record {
   so_far = taken-none g.K.Clock.tells (RulesOnce g.Q.RewriteT.searches g.Q.RewriteT.applies (AreModified g.N.Analysis.codes g.N.Analysis.meaning g.N.Analysis.may_ask g.N.Analysis.modifies) c.args.rules.now) (Calls g.H.Hook.leaves) (measures g.D.IterationData.made) (limits_of c.args.self.now.limits) c.args.start (parts_of c.args.self.now)
-    (ap (option_map stop_of) c.requires.goes_on) c.requires.well;
+      (ap (option_map stop_of) c.requires.goes_on) c.requires.well;
   lowers = lowers-itself g.N.Analysis.codes g.N.Analysis.meaning g.met.N.Analysis.is_merge c.args.self.now.egraph;
 }
 
