@@ -26,7 +26,7 @@ use Rattle.slotted_lookup.specs.Filling.{node_over}
 use Rattle.slotted_operations.proofs.CallerLemmas.{full-valid}
 use Rattle.slotted_graph.proofs.Extending.{extends-itself}
 use Rattle.slotted_graph.specs.Adding.{AddsSyn}
-use Rattle.slotted_graph.specs.Graph.{Graph, IsFullId}
+use Rattle.slotted_graph.specs.Graph.{Graph, IsFullId, OnlyTakesSlots}
 use Rattle.slotted_graph.specs.States.{IsGraph}
 use Rattle.slotted_graph.specs.Extension.{ExtendsTo}
 use Rattle.slotted_graph.specs.ValidIds.{IsValidId}
@@ -39,13 +39,16 @@ use Rattle.slotted_instances.specs.Methods.{Method, represented, IsKnownMethod, 
 use Rattle.slotted_instances.specs.Putting.{PutsIn}
 use Rattle.slotted_instances.specs.Stacked.{Makes}
 use Rattle.slotted_instances.proofs.Answers.{method-moves, method-more, answer-more, answer-stays, instance-wider, EachPair, IsAnswerOver, over-answers}
-use Rattle.slotted_instances.proofs.Growing.{graph-canonical, grows-itself, grows-then}
+use Rattle.slotted_instances.proofs.Growing.{builds-takes, graph-canonical, grows-itself, grows-then}
 use Rattle.slotted_instances.proofs.Parts.{pattern_at, all-known, part-at}
 use Rattle.slotted_instances.proofs.Putting.{representatives-longer}
 use Rattle.slotted_instances.specs.Frames.{at}
 
 pub makes-itself : (m : Method) (g : Graph) → IsGraph g → Makes m g g
 makes-itself m g is = record { grows = grows-itself g is; asserts = λ k. refl }
+
+pub makes-takes : (m : Method) (g h : Graph) → IsGraph g → OnlyTakesSlots g h → Makes m g h
+makes-takes m g h is takes = let b = builds-takes g h is takes in record { grows = b.grows; asserts = λ k. b.asserts }
 
 -- the pairs of two lists represent
 pub representatives-both : (g h : Graph) (X Y : List (DTerm × DTerm)) → AreRepresentatives g h X → AreRepresentatives g h Y → AreRepresentatives g h (X ++ Y)

@@ -23,6 +23,7 @@ use Rattle.slotted_graph.specs.States.{IsGraph}
 use Rattle.slotted_graph.specs.ValidIds.{IsValidId}
 use Rattle.slotted_graph.proofs.Extending.{extends-itself}
 use Rattle.slotted_rule_patterns.specs.PatternCode.{pattern_in}
+use Rattle.slotted_instances.specs.Filled.{FillsValues}
 use Rattle.slotted_instances.specs.Methods.{AreRepresentatives, method_of, represented}
 use Rattle.slotted_instances.specs.Uniting.{UnitesInstances, HasEquationOfInstances}
 use Rattle.slotted_instances.proofs.Answers.{answer-more}
@@ -110,7 +111,11 @@ module _ (g h : Graph) (s : Values) (p q : PatternTree) (text : Option (List ℕ
       let r = u.right_instance.instance (known-method u.method) in
       representatives-longer g g u.built h (l.pairs ++ r.pairs) (extends-itself g) u.later (representatives-both g u.built l.pairs r.pairs l.are r.are)
 
-  pub united-equation : (rule : Rule) → pattern_in p ≡ Some rule.left → pattern_in q ≡ Some rule.right → (given : List ℕ) → AllKnown g.table given → HasEquationOfInstances (represented (method_of u.method) united-pairs) given g h rule s text
+  -- both are instances by the filled values
+  pub united-fills : FillsValues g.table h.image.canonical [] s u.filled
+  united-fills = subst (λ (z : List DTerm). FillsValues g.table z [] s u.filled) (sym u.union.canonical) u.fills
+
+  pub united-equation : (rule : Rule) → pattern_in p ≡ Some rule.left → pattern_in q ≡ Some rule.right → (given : List ℕ) → AllKnown g.table given → HasEquationOfInstances (represented (method_of u.method) united-pairs) given g h rule u.filled text
   unfolding united-pairs
   united-equation rule is_left is_right given known =
       let m = method_of u.method in
@@ -127,20 +132,20 @@ module _ (g h : Graph) (s : Values) (p q : PatternTree) (text : Option (List ℕ
       let nodes = f.image.canonical in
       let apart : FillApart f.image a b left right = record { left_fills = fewer-given nodes (values b.1) given a left fa.1; right_fills = fewer-given nodes (values left.1) given b right fb.1 } in
       let asserts = u.union.asserts left right apart in
-      let first : IsAnswer R nodes given (valued s) rule.left a = answer-more m l.pairs (l.pairs ++ r.pairs) (λ z c. Contains-append_left l.pairs r.pairs z c) nodes (valued s) given rule.left a (l.answers rule.left is_left given known) in
-      let second : IsAnswer R nodes given (valued s) rule.right b = answer-more m r.pairs (l.pairs ++ r.pairs) (λ z c. Contains-append_right l.pairs r.pairs z c) nodes (valued s) given rule.right b (r.answers rule.right is_right given known) in
-      let there : IsEquationOfInstances R given nodes rule s (equation_of left right) = record {
+      let first : IsAnswer R nodes given (valued u.filled) rule.left a = answer-more m l.pairs (l.pairs ++ r.pairs) (λ z c. Contains-append_left l.pairs r.pairs z c) nodes (valued u.filled) given rule.left a (l.answers rule.left is_left given known) in
+      let second : IsAnswer R nodes given (valued u.filled) rule.right b = answer-more m r.pairs (l.pairs ++ r.pairs) (λ z c. Contains-append_right l.pairs r.pairs z c) nodes (valued u.filled) given rule.right b (r.answers rule.right is_right given known) in
+      let there : IsEquationOfInstances R given nodes rule u.filled (equation_of left right) = record {
         left = left;
         right = right;
         left_full = fa.1.full;
         right_full = fb.1.full;
         equation = refl;
-        left_instance = answer-instances R nodes given (valued s) rule.left a first left (last-given nodes (values b.1) given a left fa.1);
-        right_instance = answer-instances R nodes given (valued s) rule.right b second right (last-given nodes (values left.1) given b right fb.1);
+        left_instance = answer-instances R nodes given (valued u.filled) rule.left a first left (last-given nodes (values b.1) given a left fa.1);
+        right_instance = answer-instances R nodes given (valued u.filled) rule.right b second right (last-given nodes (values left.1) given b right fb.1);
       } in
       record {
         equation = equation_of left right;
-        instances = subst (λ (z : List DTerm). IsEquationOfInstances R given z rule s (equation_of left right)) (sym u.union.canonical) there;
+        instances = subst (λ (z : List DTerm). IsEquationOfInstances R given z rule u.filled (equation_of left right)) (sym u.union.canonical) there;
         number = asserts.number;
         in_range = asserts.in_range;
         stands = asserts.stands;

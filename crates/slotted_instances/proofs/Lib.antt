@@ -9,6 +9,9 @@ pub mod FrameStacks
 pub mod SameIds
 pub mod Answering
 pub mod Putting
+pub mod FilledValues
+pub mod KnownBinders
+pub mod FilledInstances
 pub mod Answers
 pub mod Parts
 pub mod BuiltInstances

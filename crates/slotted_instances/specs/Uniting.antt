@@ -1,7 +1,7 @@
 -- Uniting instances of two patterns.
---     UnitesInstances g h s p q text y      instances of both are built, and then asserted to be equal, with the text
+--     UnitesInstances g h s p q text y      instances of both are built over the filled values of s, and then asserted to be equal, with the text
 --     HasEquationOfInstances R given g h rule s text     what a rule needs of that
-use Rattle.std.specs.Prelude.{◌≡◌, ◌<◌, ◌≤◌, ℕ, List, length, Bool, Option}
+use Rattle.std.specs.Prelude.{◌≡◌, ◌<◌, ◌≤◌, ℕ, List, [], length, Bool, Option}
 use Rattle.slotted_slots.specs.declared.types.AppliedId.{AppliedId}
 use Rattle.slotted_theory.specs.Nameless.{DTerm}
 use Rattle.slotted_model.specs.ProofList.{Equation, equation_at, explicit, step_at}
@@ -15,17 +15,22 @@ use Rattle.slotted_graph.specs.Image.{IsUnion}
 use Rattle.slotted_graph.specs.States.{IsGraph}
 use Rattle.slotted_graph.specs.Extension.{ExtendsTo}
 use Rattle.slotted_model_rules.specs.Conditions.{Values}
+use Rattle.slotted_instances.specs.Filled.{AreFullValues, FillsValues}
 use Rattle.slotted_instances.specs.Instances.{Instantiates}
 use Rattle.slotted_instances.specs.Methods.{method_of}
 
--- by one method both answers stand in the graph that was built, in which nothing more is asserted; the union of the two answers y
+-- each value gets its missing names once, for both patterns; by one method both answers stand in the graph that was built, in which nothing
+-- more is asserted; the union of the two answers y
 pub record UnitesInstances (g h : Graph) (s : Values) (p q : PatternTree) (text : Option (List ℕ)) (y : Bool) : Type 0 where
   pub built : Graph
+  pub filled : Values
+  pub fills : FillsValues g.table built.image.canonical [] s filled
+  pub full : AreFullValues built filled
   pub left : AppliedId
   pub right : AppliedId
   pub method : SubstMethod
-  pub left_instance : Instantiates (method_of method) g built s p (to_applied left)
-  pub right_instance : Instantiates (method_of method) g built s q (to_applied right)
+  pub left_instance : Instantiates (method_of method) g built filled p (to_applied left)
+  pub right_instance : Instantiates (method_of method) g built filled q (to_applied right)
   pub union : IsUnion built.image h.image (to_applied left) (to_applied right) y
   pub recorded : RecordsUnion built h left right text
   pub graph : IsGraph h

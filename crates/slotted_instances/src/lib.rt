@@ -3,6 +3,7 @@
 
 mod adding;
 mod building;
+mod filling;
 pub mod instances;
 pub mod looking_up;
 pub mod method;

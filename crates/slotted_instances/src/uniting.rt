@@ -14,6 +14,7 @@ ghost use Rattle.slotted_instances.specs.Refusals.{AreMissing, HavePassed, IsEit
 ghost use Rattle.slotted_instances.specs.Refusals.{IsRefusedBefore, RefusesInstances};
 ghost use Rattle.slotted_instances.specs.Uniting.{UnitesInstances};
 
+use crate::filling::full_values;
 use crate::refusals::{check_values, failing};
 use crate::stored::build_stored;
 use slotted_analyses::Analysis;
@@ -41,7 +42,7 @@ fn check_both<L: Language>(
     check_values(alloc, b, subst)
 }
 
-// Unites both instances.
+// Unites both instances, which are built over the same filled values.
 fn unite<L: Language, N: Analysis<L>>(
     alloc: Global,
     graph: &mut EGraph<L, N>,
@@ -64,9 +65,10 @@ fn unite<L: Language, N: Analysis<L>>(
     ensures carries { IsTrue graph.new.failed ⊎ CarriesAlong N.codes N.meaning graph.old graph.new }
     ensures only { IfErr result IsShortage }
 {
+    let filled = full_values(alloc, graph, subst)?;
     let method = graph.subst_method();
-    let left = build_stored(alloc, graph, method, a, subst)?;
-    let right = build_stored(alloc, graph, method, b, subst)?;
+    let left = build_stored(alloc, graph, method, a, &filled)?;
+    let right = build_stored(alloc, graph, method, b, &filled)?;
     let answer = graph.union_quietly(&left, &right, text);
     // This call is there for its clauses: what holds of each graph that has not failed.
     let _ = graph.is_failed();

@@ -47,10 +47,12 @@ module _ (h : Graph) (is : IsGraph h) where
   -- an answer that is settled by an entry
   pub equation-equal : (g : Graph) (p q : PatternTree) (s : Values) → HasEquationFor g h p q s → HaveEqualInstances g h p q s
   equation-equal g p q s e = record {
+    filled = e.filled;
+    fills = e.fills;
     method = e.method;
     pairs = e.pairs;
     are = e.are;
-    each = λ rule l r given known. entry-equal (represented (method_of e.method) e.pairs) given rule s (e.each rule l r given known);
+    each = λ rule l r given known. entry-equal (represented (method_of e.method) e.pairs) given rule e.filled (e.each rule l r given known);
   }
 
 -- rules without conditions, one after another

@@ -1,7 +1,6 @@
 -- The slots of a pattern, by the first node that has one, and what several conditions read one after the other.
 use Rattle.std.proofs.Common.{◌≡◌, ◌∙◌, ℕ, List, ◌∷◌, ◌++◌, Bool, true, false, cond, refl, ap, sym}
 use Rattle.std.specs.Prelude.{Box, not, ◌||◌, Option, None, Some, is_some}
-use Rattle.std.specs.List.{find}
 use Rattle.std.specs.Option.{option_or}
 use Rattle.std.specs.declared.alloc.Global.{Global}
 use Rattle.std.proofs.lemmas.List.Folds.{find-append}

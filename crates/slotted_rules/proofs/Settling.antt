@@ -21,10 +21,12 @@ use Rattle.slotted_graph.specs.Extension.{Begins, ExtendsTo}
 use Rattle.slotted_graph.specs.States.{IsGraph}
 use Rattle.slotted_graph.proofs.Extending.{between-longer, extends-itself, extends-then}
 use Rattle.slotted_rule_patterns.specs.PatternCode.{pattern_in}
+use Rattle.slotted_instances.specs.Filled.{FillsValues}
 use Rattle.slotted_instances.specs.Methods.{method_of, represented}
 use Rattle.slotted_instances.specs.Refusals.{HavePassed}
 use Rattle.slotted_instances.specs.Uniting.{UnitesInstances}
-use Rattle.slotted_instances.proofs.InstanceEquations.{stored-length, united-equation, united-pairs, united-representatives}
+use Rattle.slotted_instances.proofs.FilledValues.{fills-wider}
+use Rattle.slotted_instances.proofs.InstanceEquations.{stored-length, united-equation, united-fills, united-pairs, united-representatives}
 use Rattle.slotted_instances.proofs.Putting.{representatives-longer}
 use Rattle.slotted_rules.specs.Loops.{HasAppliedSome}
 use Rattle.slotted_rules.specs.Rewriting.{AppliesEach, AppliesOne, AreFromRule, BreaksOff, ComesFromRule, HasEntryFor, HasEquationFor, IsEquationFor, IsRefusedRewrite, IsSettled, LeavesUnited, RefusesOne, asserts, next_answer, no_answer, passes_over}
@@ -58,20 +60,25 @@ equation-stays older newer extends R given rule s e i = record {
 
 -- from f to h, and so in a longer stretch from g to i
 module _ (g f h i : Graph) (before : ExtendsTo g f) (after : ExtendsTo h i) (p q : PatternTree) (s : Values) where
-  entry-wider : (R : DTerm → DTerm → Bool) (given : List ℕ) (rule : Rule) → HasEntryFor R given h rule s → HasEntryFor R given i rule s
-  entry-wider R given rule e = record {
+  filled-wider : (filled : Values) → FillsValues f.table h.image.canonical [] s filled → FillsValues g.table i.image.canonical [] s filled
+  filled-wider filled fills = fills-wider g.table f.table h.image.canonical i.image.canonical before.more after.canonical [] s filled fills
+
+  entry-wider : (R : DTerm → DTerm → Bool) (given : List ℕ) (rule : Rule) (filled : Values) → HasEntryFor R given h rule filled → HasEntryFor R given i rule filled
+  entry-wider R given rule filled e = record {
     number = e.number;
     in_range = begins-within h.image.entries i.image.entries after.entries e.number e.in_range;
-    instances = subst (IsEquationOfInstances R given i.image.canonical rule s) (sym (equation-begins h.image.entries i.image.entries after.entries e.number e.in_range))
-        (equation-stays h.image.canonical i.image.canonical after.canonical R given rule s (equation_at h.image.entries e.number) e.instances);
+    instances = subst (IsEquationOfInstances R given i.image.canonical rule filled) (sym (equation-begins h.image.entries i.image.entries after.entries e.number e.in_range))
+        (equation-stays h.image.canonical i.image.canonical after.canonical R given rule filled (equation_at h.image.entries e.number) e.instances);
   }
 
   has-wider : HasEquationFor f h p q s → HasEquationFor g i p q s
   has-wider e = record {
+    filled = e.filled;
+    fills = filled-wider e.filled e.fills;
     method = e.method;
     pairs = e.pairs;
     are = representatives-longer g f h i e.pairs before after e.are;
-    each = λ rule l r given known. entry-wider (represented (method_of e.method) e.pairs) given rule (e.each rule l r given (known-later g f before given known));
+    each = λ rule l r given known. entry-wider (represented (method_of e.method) e.pairs) given rule e.filled (e.each rule l r given (known-later g f before given known));
   }
 
   pub settled-wider : (holds : Values → Graph → Bool → Type 0) → IsSettled holds p q f h s → IsSettled holds p q g i s
@@ -80,11 +87,13 @@ module _ (g f h i : Graph) (before : ExtendsTo g f) (after : ExtendsTo h i) (p q
 
   equation-wider : (e : Equation) → IsEquationFor f h p q s e → IsEquationFor g i p q s e
   equation-wider e k = record {
+    filled = k.filled;
+    fills = filled-wider k.filled k.fills;
     method = k.method;
     pairs = k.pairs;
     are = representatives-longer g f h i k.pairs before after k.are;
     each = λ rule l r given known.
-        equation-stays h.image.canonical i.image.canonical after.canonical (represented (method_of k.method) k.pairs) given rule s e (k.each rule l r given (known-later g f before given known));
+        equation-stays h.image.canonical i.image.canonical after.canonical (represented (method_of k.method) k.pairs) given rule k.filled e (k.each rule l r given (known-later g f before given known));
   }
 
 module _ (g f h i : Graph) (before : ExtendsTo g f) (after : ExtendsTo h i) (holds : Values → Graph → Bool → Type 0) (p q : PatternTree) (name : List ℕ) (found : List Values) where
@@ -111,6 +120,8 @@ none-given g = λ k d l. absurd (omega (arith, l))
 module _ (holds : Values → Graph → Bool → Type 0) (p q : PatternTree) (name : List ℕ) (s : Values) (g h : Graph) (y : Bool) (u : UnitesInstances g h s p q (Some name) y) where
   united-has : HasEquationFor g h p q s
   united-has = record {
+    filled = u.filled;
+    fills = united-fills g h s p q (Some name) y u;
     method = u.method;
     pairs = united-pairs g h s p q (Some name) y u;
     are = united-representatives g h s p q (Some name) y u;
@@ -119,7 +130,7 @@ module _ (holds : Values → Graph → Bool → Type 0) (p q : PatternTree) (nam
         record {
           number = e.number;
           in_range = e.in_range;
-          instances = subst (IsEquationOfInstances _ given h.image.canonical rule s) (sym e.stands) e.instances;
+          instances = subst (IsEquationOfInstances _ given h.image.canonical rule u.filled) (sym e.stands) e.instances;
         };
   }
 
@@ -137,12 +148,14 @@ module _ (holds : Values → Graph → Bool → Type 0) (p q : PatternTree) (nam
           between = record { graph = is; after = extends-itself g; before = u.extends };
           held = held;
           equation = record {
+            filled = u.filled;
+            fills = united-fills g h s p q (Some name) y u;
             method = u.method;
             pairs = united-pairs g h s p q (Some name) y u;
             are = united-representatives g h s p q (Some name) y u;
             each = λ rule l r given known.
                 let e = united-equation g h s p q (Some name) y u rule l r given known in
-                subst (IsEquationOfInstances _ given h.image.canonical rule s) (sym (e.only n past lt new).0) e.instances;
+                subst (IsEquationOfInstances _ given h.image.canonical rule u.filled) (sym (e.only n past lt new).0) e.instances;
           };
           text = (first.only n past lt new).1;
         }

@@ -17,6 +17,7 @@ use Rattle.slotted_operations.specs.Graph.{Graph}
 use Rattle.slotted_operations.specs.Image.{asserted_in}
 use Rattle.slotted_graph.specs.declared.method.SubstMethod.{SubstMethod}
 use Rattle.slotted_graph.specs.Extension.{ExtendsTo}
+use Rattle.slotted_instances.specs.Filled.{FillsValues}
 use Rattle.slotted_instances.specs.Methods.{AreRepresentatives, method_of, represented}
 use Rattle.slotted_rules.specs.Rewriting.{IsSearched}
 
@@ -30,11 +31,13 @@ pub record HasEqualIds (R : DTerm → DTerm → Bool) (given : List ℕ) (h : Gr
   pub equal : Equal (asserted_in h.image) (term_of h.image.canonical left) (term_of h.image.canonical right)
 
 pub record HaveEqualInstances (g h : Graph) (p q : PatternTree) (s : Values) : Type 0 where
+  pub filled : Values
+  pub fills : FillsValues g.table h.image.canonical [] s filled
   pub method : SubstMethod
   pub pairs : List (DTerm × DTerm)
   pub are : AreRepresentatives g h pairs
   pub each : (rule : Rule) → pattern_in p ≡ Some rule.left → pattern_in q ≡ Some rule.right → (given : List ℕ) → AllKnown g.table given →
-      HasEqualIds (represented (method_of method) pairs) given h rule s
+      HasEqualIds (represented (method_of method) pairs) given h rule filled
 
 pub record HasAppliedMatches (g h : Graph) (p q : PatternTree) : Type 0 where
   pub before : Graph

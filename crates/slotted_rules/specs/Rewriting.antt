@@ -2,7 +2,7 @@
 --     IsSearched t g found h           from g to h these answers are what a search for the pattern t finds
 --     LacksSlots t g h                 why slots run out in such a search
 --     CanBeApplied t found g           each answer has valid values of g, one for each variable of t
---     IsEquationFor g h p q s e        e is the equation of instances of p and q under s, whatever names are given that g knew
+--     IsEquationFor g h p q s e        e is the equation of instances of p and q by one substitution of full ids that fill s, whatever names are given that g knew
 --     HasEquationFor g h p q s         an entry of h is such an equation
 --     IsSettled holds p q g h s          so it is under s, or the condition is no in a graph between g and h
 --     ComesFromRule ..                 an entry of h is such an equation, of an answer for which the condition is yes in a graph between, with the rule's name
@@ -34,6 +34,7 @@ use Rattle.slotted_graph.specs.declared.method.SubstMethod.{SubstMethod}
 use Rattle.slotted_graph.specs.Extension.{ExtendsTo, IsBetween}
 use Rattle.slotted_graph.specs.Matching.{AreFoundValid, FindsAll, FindsAllOf, FindsEachOf, FindsLookedUp, HasWideRow}
 use Rattle.slotted_graph.specs.States.{IsGraph}
+use Rattle.slotted_instances.specs.Filled.{FillsValues}
 use Rattle.slotted_instances.specs.Methods.{AreRepresentatives, method_of, represented}
 use Rattle.slotted_instances.specs.Refusals.{HavePassed}
 use Rattle.slotted_instances.specs.Uniting.{UnitesInstances}
@@ -60,13 +61,16 @@ pub record CanBeApplied (t : PatternTree) (found : List Values) (g : Graph) : Ty
   pub whole : (s : Values) → Contains found s → IsSome (pattern_in t)
   pub values : (s : Values) → Contains found s → first_missing t s ≡ None
 
--- what represents the bodies of substitutions is said by one of the methods that a graph can be made with
+-- each value has got its missing names once, for both sides; what represents the bodies of substitutions is said by one of the methods that a
+-- graph can be made with
 pub record IsEquationFor (g h : Graph) (p q : PatternTree) (s : Values) (e : Equation) : Type 0 where
+  pub filled : Values
+  pub fills : FillsValues g.table h.image.canonical [] s filled
   pub method : SubstMethod
   pub pairs : List (DTerm × DTerm)
   pub are : AreRepresentatives g h pairs
   pub each : (rule : Rule) → pattern_in p ≡ Some rule.left → pattern_in q ≡ Some rule.right → (given : List ℕ) → AllKnown g.table given →
-      IsEquationOfInstances (represented (method_of method) pairs) given h.image.canonical rule s e
+      IsEquationOfInstances (represented (method_of method) pairs) given h.image.canonical rule filled e
 
 pub record HasEntryFor (R : DTerm → DTerm → Bool) (given : List ℕ) (h : Graph) (rule : Rule) (s : Values) : Type 0 where
   pub number : ℕ
@@ -74,11 +78,13 @@ pub record HasEntryFor (R : DTerm → DTerm → Bool) (given : List ℕ) (h : Gr
   pub instances : IsEquationOfInstances R given h.image.canonical rule s (equation_at h.image.entries number)
 
 pub record HasEquationFor (g h : Graph) (p q : PatternTree) (s : Values) : Type 0 where
+  pub filled : Values
+  pub fills : FillsValues g.table h.image.canonical [] s filled
   pub method : SubstMethod
   pub pairs : List (DTerm × DTerm)
   pub are : AreRepresentatives g h pairs
   pub each : (rule : Rule) → pattern_in p ≡ Some rule.left → pattern_in q ≡ Some rule.right → (given : List ℕ) → AllKnown g.table given →
-      HasEntryFor (represented (method_of method) pairs) given h rule s
+      HasEntryFor (represented (method_of method) pairs) given h rule filled
 
 abbrev pub IsSettled : (Values → Graph → Bool → Type 0) → PatternTree → PatternTree → Graph → Graph → Values → Type 0
 IsSettled holds p q g h s = HasEquationFor g h p q s ⊎ ((m : Graph) × IsBetween g h m × holds s m false)
