@@ -1,5 +1,6 @@
 -- Lemmas on building in a graph.
 pub mod Growing
+pub mod Carrying
 pub mod NodesOver
 pub mod Walking
 pub mod Frames

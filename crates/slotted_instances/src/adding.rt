@@ -9,6 +9,7 @@ ghost use Rattle.slotted_graph.specs.Nodes.{child_ids};
 ghost use Rattle.slotted_graph.specs.States.{IsGraph};
 ghost use Rattle.slotted_graph.specs.ValidIds.{IsValidId};
 ghost use Rattle.slotted_instances.specs.Building.{Builds};
+ghost use Rattle.slotted_instances.specs.Carried.{CarriesAlong};
 
 use slotted_analyses::Analysis;
 use slotted_graph::EGraph;
@@ -28,6 +29,7 @@ pub(crate) fn add_node<L: Language, N: Analysis<L>>(
     ensures syn { IfOk result (λ a. AddsSyn graph.old graph.new (L.form node) (to_applied a)) }
     ensures builds { OnOk result (Builds graph.old graph.new) }
     ensures err { OnErr result (IsTrue graph.new.failed ⊎ Builds graph.old graph.new) }
+    ensures carries { IsTrue graph.new.failed ⊎ CarriesAlong N.codes N.meaning graph.old graph.new }
     ensures only { IfErr result IsShortage }
 {
     if node.slot_count() >= PLACES {

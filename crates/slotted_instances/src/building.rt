@@ -10,7 +10,9 @@ ghost use Rattle.slotted_graph.specs.ValidIds.{IsValidId};
 ghost use Rattle.slotted_rule_patterns.specs.PatternCode.{pattern_in};
 ghost use Rattle.slotted_rule_patterns.specs.Values.{values_of};
 ghost use Rattle.slotted_instances.specs.Building.{Grows};
+ghost use Rattle.slotted_instances.specs.Carried.{CarriesIf};
 ghost use Rattle.slotted_instances.specs.Instances.{AreValidValues, HasValues, Instantiates};
+ghost use Rattle.slotted_instances.specs.Methods.{IsKnownMethod};
 ghost use Rattle.slotted_instances.specs.Putting.{PutsIn};
 ghost use Rattle.slotted_instances.specs.Stacked.{BuildsOver, IsReady, PutsLast};
 
@@ -43,6 +45,8 @@ fn put_in<L: Language, N: Analysis<L>, M: OwnSubst<L, N>>(
     ensures ok { IfOk result
         (λ a. PutsIn M.method graph.old graph.new (to_applied b.now) (to_applied x.now) (to_applied t.now) (to_applied a)) }
     ensures err { OnErr result (IsTrue graph.new.failed ⊎ Grows graph.old graph.new) }
+    ensures carries { IsTrue graph.new.failed
+        ⊎ CarriesIf (IsKnownMethod M.method) N.codes N.meaning graph.old graph.new }
     ensures fails { IsTrue graph.new.failed → IsErrAnd result IsShortage }
     ensures only { IfErr result (λ e. IsShortage e ⊎ M.refuses e) }
 {
@@ -68,6 +72,8 @@ fn put_last<L: Language, N: Analysis<L>, M: OwnSubst<L, N>>(
     ensures ok { IfOk result (λ a. PutsLast M.method graph.old graph.new
         (map to_applied ids.old.items) (map to_applied ids.new.items) (to_applied a)) }
     ensures err { OnErr result (IsTrue graph.new.failed ⊎ Grows graph.old graph.new) }
+    ensures carries { IsTrue graph.new.failed
+        ⊎ CarriesIf (IsKnownMethod M.method) N.codes N.meaning graph.old graph.new }
     ensures fails { IsTrue graph.new.failed → IsErrAnd result IsShortage }
     ensures only { IfErr result (λ e. IsShortage e ⊎ M.refuses e) }
 {
@@ -95,6 +101,8 @@ fn build_over<L: Language, N: Analysis<L>, M: OwnSubst<L, N>>(
     ensures ok { IfOk result (λ a. BuildsOver M.method graph.old graph.new (values_of subst.now) (tree_of L.form pattern.now)
         (map to_applied ids.old.items) (map to_applied ids.new.items) (to_applied a)) }
     ensures err { OnErr result (IsTrue graph.new.failed ⊎ Grows graph.old graph.new) }
+    ensures carries { IsTrue graph.new.failed
+        ⊎ CarriesIf (IsKnownMethod M.method) N.codes N.meaning graph.old graph.new }
     ensures fails { IsTrue graph.new.failed → IsErrAnd result IsShortage }
     ensures only { IfErr result (λ e. IsShortage e ⊎ M.refuses e) }
 {
@@ -129,6 +137,8 @@ pub(crate) fn build<L: Language, N: Analysis<L>, M: OwnSubst<L, N>>(
     ensures ok { IfOk result (λ a. Instantiates M.method graph.old graph.new (values_of subst.now)
         (tree_of L.form pattern.now) (to_applied a)) }
     ensures err { OnErr result (IsTrue graph.new.failed ⊎ Grows graph.old graph.new) }
+    ensures carries { IsTrue graph.new.failed
+        ⊎ CarriesIf (IsKnownMethod M.method) N.codes N.meaning graph.old graph.new }
     ensures fails { IsTrue graph.new.failed → IsErrAnd result IsShortage }
     ensures only { IfErr result (λ e. IsShortage e ⊎ M.refuses e) }
 {

@@ -10,6 +10,7 @@ ghost use Rattle.slotted_graph.specs.States.{IsGraph};
 ghost use Rattle.slotted_graph.specs.ValidIds.{IsValidId};
 ghost use Rattle.slotted_rule_patterns.specs.PatternCode.{pattern_in};
 ghost use Rattle.slotted_rule_patterns.specs.Values.{values_of};
+ghost use Rattle.slotted_instances.specs.Carried.{CarriesAlong};
 ghost use Rattle.slotted_instances.specs.Instances.{AreValidValues, HasValues, InstantiatesKnown};
 ghost use Rattle.slotted_instances.specs.Refusals.{IsFailedOrShort, IsMissing, IsRefusedBefore, PassesTests};
 ghost use Rattle.slotted_instances.specs.Refusals.{RefusesInstance};
@@ -39,6 +40,7 @@ fn instance<L: Language, N: Analysis<L>>(
     ensures ok { IfOk result (λ a. InstantiatesKnown graph.old graph.new (values_of subst.now)
         (tree_of L.form pattern.now) (to_applied a)) }
     ensures given { OnOk result (HasValues (values_of subst.now) (tree_of L.form pattern.now)) }
+    ensures carries { IsTrue graph.new.failed ⊎ CarriesAlong N.codes N.meaning graph.old graph.new }
     ensures err { IfErr result (λ e. IsShortage e
         ⊎ (IsMissing (values_of subst.now) (tree_of L.form pattern.now) e × (graph.new ≡ graph.old))) }
 {
@@ -69,6 +71,9 @@ pub fn pattern_subst<L: Language, N: Analysis<L>>(
         (tree_of L.form pattern.now) (to_applied a)) }
     ensures valid { IfOk result (λ a. IsValidId graph.new (to_applied a)) }
     ensures extends { IsTrue graph.new.failed ⊎ ExtendsTo graph.old graph.new }
+
+    // Data is only lowered. New classes, and those whose data has changed, wait to be modified.
+    ensures carries { IsTrue graph.new.failed ⊎ CarriesAlong N.codes N.meaning graph.old graph.new }
 
     // The pattern is tested before anything is added: first that it is whole, and then its variables from the left.
     ensures tested { OnOk result (PassesTests (values_of subst.now) (tree_of L.form pattern.now)) }

@@ -8,6 +8,7 @@ ghost use Rattle.slotted_graph.specs.Extension.{ExtendsTo};
 ghost use Rattle.slotted_graph.specs.Graph.{IsFullId};
 ghost use Rattle.slotted_graph.specs.States.{IsGraph};
 ghost use Rattle.slotted_graph.specs.ValidIds.{IsValidId};
+ghost use Rattle.slotted_instances.specs.Carried.{CarriesIf};
 ghost use Rattle.slotted_instances.specs.Methods.{IsKnownMethod, Method, SubstitutesBy, unknown, canonical};
 
 use crate::substitution::replaced;
@@ -25,7 +26,8 @@ pub trait OwnSubst<L: Language, N: Analysis<L>> {
     // The errors that the method may return beside shortages.
     ghost refuses: { Error → Type 0 };
 
-    /// Returns the id of `b[x := t]`, for three full ids. The graph may change, but is only extended.
+    /// Returns the id of `b[x := t]`, for three full ids. The graph may change, but is only extended, and data only
+    /// goes down. The limit of rounds stays.
     fn subst(
         &mut self,
         alloc: Global,
@@ -42,6 +44,8 @@ pub trait OwnSubst<L: Language, N: Analysis<L>> {
         ensures stands { IfOk result (λ a. IsKnownMethod method
             → SubstitutesBy method graph.old graph.new (to_applied b) (to_applied x) (to_applied t) (to_applied a)) }
         ensures extends { IsTrue graph.new.failed ⊎ ExtendsTo graph.old graph.new }
+        ensures carries { IsTrue graph.new.failed
+            ⊎ CarriesIf (IsKnownMethod method) N.codes N.meaning graph.old graph.new }
         ensures fails { IsTrue graph.new.failed → IsErrAnd result IsShortage }
         ensures only { IfErr result (λ e. IsShortage e ⊎ refuses e) };
 

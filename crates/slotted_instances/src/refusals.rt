@@ -1,5 +1,5 @@
 //! Tests before anything is added, and the failure of a graph.
-ghost use Rattle.std.specs.Prelude.{◌≡◌, ◌⊎◌, true, IsErrAnd, IsOk, IfErr, OnOk};
+ghost use Rattle.std.specs.Prelude.{◌≡◌, ◌⊎◌, true, IsErrAnd, IsOk, IsTrue, IfErr, OnOk};
 ghost use Rattle.slotted_slots.specs.Error.{IsOutOfMemory, IsShortage};
 ghost use Rattle.slotted_patterns.specs.View.{tree_of};
 ghost use Rattle.slotted_rule_patterns.specs.Values.{values_of};
@@ -39,6 +39,7 @@ pub(crate) fn failing<L: Language, N: Analysis<L>, T>(
     ensures same { result ≡ answer }
     ensures fails { IsErrAnd answer IsShortage → graph.new ≡ record graph.old { failed = true } }
     ensures stays { (IsErrAnd answer IsShortage → ⊥) → graph.new ≡ graph.old }
+    ensures left { IsTrue graph.new.failed ⊎ (graph.new ≡ graph.old) }
 {
     if let Err(Error::OutOfMemory | Error::OutOfSlots) = &answer {
         graph.fail();

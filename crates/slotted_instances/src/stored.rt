@@ -9,6 +9,7 @@ ghost use Rattle.slotted_graph.specs.States.{IsGraph};
 ghost use Rattle.slotted_rule_patterns.specs.PatternCode.{pattern_in};
 ghost use Rattle.slotted_rule_patterns.specs.Values.{values_of};
 ghost use Rattle.slotted_instances.specs.Building.{Grows};
+ghost use Rattle.slotted_instances.specs.Carried.{CarriesAlong};
 ghost use Rattle.slotted_instances.specs.Instances.{AreValidValues, HasValues, Instantiates};
 ghost use Rattle.slotted_instances.specs.Methods.{canonical, extracted, method_of};
 
@@ -90,6 +91,7 @@ pub(crate) fn build_stored<L: Language, N: Analysis<L>>(
     requires given { HasValues (values_of subst.now) (tree_of L.form pattern.now) }
     ensures ok { IfOk result (λ a. Instantiates (method_of method) graph.old graph.new (values_of subst.now)
         (tree_of L.form pattern.now) (to_applied a)) }
+    ensures carries { IsTrue graph.new.failed ⊎ CarriesAlong N.codes N.meaning graph.old graph.new }
     ensures only { IfErr result IsShortage }
 {
     match method {

@@ -5,6 +5,7 @@ ghost use Rattle.slotted_proofs.specs.Equations.{to_applied};
 ghost use Rattle.slotted_graph.specs.Extension.{ExtendsTo};
 ghost use Rattle.slotted_graph.specs.Graph.{IsFullId};
 ghost use Rattle.slotted_instances.specs.Building.{AssertsNothing};
+ghost use Rattle.slotted_instances.specs.Carried.{CarriesAlong};
 ghost use Rattle.slotted_instances.specs.Substituting.{StandsForReplaced};
 
 use crate::refusals::failing;
@@ -34,6 +35,7 @@ pub fn subst_ids<L: Language, N: Analysis<L>>(
     ensures term { IfOk result (λ a. StandsForReplaced graph.new (to_applied x.now) (to_applied t.now)
         (to_applied b.now) (to_applied a)) }
     ensures extends { IsTrue graph.new.failed ⊎ ExtendsTo graph.old graph.new }
+    ensures carries { IsTrue graph.new.failed ⊎ CarriesAlong N.codes N.meaning graph.old graph.new }
     ensures asserts { OnOk result (AssertsNothing graph.old graph.new) }
     ensures stays { IsTrue graph.old.failed → graph.new ≡ graph.old }
     ensures failed { IsErrOf result Error.Failed ↔ IsTrue graph.old.failed }

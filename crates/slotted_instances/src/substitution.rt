@@ -9,6 +9,7 @@ ghost use Rattle.slotted_graph.specs.Graph.{IsFullId};
 ghost use Rattle.slotted_graph.specs.States.{IsGraph};
 ghost use Rattle.slotted_model_rules.specs.ReplacedIds.{IsOlderOrLacks};
 ghost use Rattle.slotted_instances.specs.Building.{Builds};
+ghost use Rattle.slotted_instances.specs.Carried.{CarriesAlong};
 ghost use Rattle.slotted_instances.specs.Frames.{Closes, IsClosing, IsDone, IsKnownAnswer, IsLessWork, IsOpen, IsStack};
 ghost use Rattle.slotted_instances.specs.Frames.{KeepsGoal, Opens, TakesAnswer};
 ghost use Rattle.slotted_instances.specs.Substituting.{HasNameBeside, Replaces};
@@ -92,6 +93,7 @@ fn frame_for<L: Language, N: Analysis<L>>(
     requires body { IsFullId graph.old (to_applied b.now) }
     ensures ok { IfOk result (Opens L.form graph.old graph.new (to_applied b.now)) }
     ensures err { OnErr result (IsTrue graph.new.failed ⊎ Builds graph.old graph.new) }
+    ensures carries { IsTrue graph.new.failed ⊎ CarriesAlong N.codes N.meaning graph.old graph.new }
     ensures only { IfErr result IsShortage }
 {
     let id = b.copy(alloc)?;
@@ -124,6 +126,7 @@ fn close<L: Language, N: Analysis<L>>(
     requires { IsDone L.form graph.old frame }
     ensures ok { IfOk result (λ a. Closes L.form graph.old graph.new frame (to_applied a)) }
     ensures err { OnErr result (IsTrue graph.new.failed ⊎ Builds graph.old graph.new) }
+    ensures carries { IsTrue graph.new.failed ⊎ CarriesAlong N.codes N.meaning graph.old graph.new }
     ensures only { IfErr result IsShortage }
 {
     let Frame {
@@ -153,6 +156,7 @@ fn enter_child<L: Language, N: Analysis<L>>(
         (KeepsGoal L.form graph.old graph.new (to_applied x.now) (to_applied t.now) stack.old stack.new) }
     ensures work { OnOk result (IsLessWork L.form graph.old (to_applied x.now) (to_applied t.now) stack.old stack.new) }
     ensures err { OnErr result (IsTrue graph.new.failed ⊎ Builds graph.old graph.new) }
+    ensures carries { IsTrue graph.new.failed ⊎ CarriesAlong N.codes N.meaning graph.old graph.new }
     ensures only { IfErr result IsShortage }
 {
     let current = &stack.current;
@@ -183,6 +187,7 @@ fn step<L: Language, N: Analysis<L>>(
         → IsLessWork L.form graph.old (to_applied x.now) (to_applied t.now) stack.old stack.new) }
     ensures end { IfOk result (λ more. more ≡ false → IsClosing stack.new) }
     ensures err { OnErr result (IsTrue graph.new.failed ⊎ Builds graph.old graph.new) }
+    ensures carries { IsTrue graph.new.failed ⊎ CarriesAlong N.codes N.meaning graph.old graph.new }
     ensures only { IfErr result IsShortage }
 {
     if stack.current.next < stack.current.count {
@@ -216,6 +221,7 @@ pub(crate) fn replaced<L: Language, N: Analysis<L>>(
     ensures ok { IfOk result
         (λ a. Replaces graph.old graph.new (to_applied x.now) (to_applied t.now) (to_applied b.now) (to_applied a)) }
     ensures err { OnErr result (IsTrue graph.new.failed ⊎ Builds graph.old graph.new) }
+    ensures carries { IsTrue graph.new.failed ⊎ CarriesAlong N.codes N.meaning graph.old graph.new }
     ensures only { IfErr result IsShortage }
 {
     if let Some(answer) = known_answer(alloc, b, x, t)? {

@@ -8,6 +8,7 @@ ghost use Rattle.slotted_graph.specs.Image.{text_bytes};
 ghost use Rattle.slotted_graph.specs.States.{IsGraph};
 ghost use Rattle.slotted_rule_patterns.specs.PatternCode.{pattern_in};
 ghost use Rattle.slotted_rule_patterns.specs.Values.{values_of};
+ghost use Rattle.slotted_instances.specs.Carried.{CarriesAlong};
 ghost use Rattle.slotted_instances.specs.Instances.{AreValidValues, HasValues};
 ghost use Rattle.slotted_instances.specs.Refusals.{AreMissing, HavePassed, IsEitherNotWhole, IsFailedOrShort};
 ghost use Rattle.slotted_instances.specs.Refusals.{IsRefusedBefore, RefusesInstances};
@@ -61,6 +62,7 @@ fn unite<L: Language, N: Analysis<L>>(
     ensures unites { IfOk result (UnitesInstances graph.old graph.new (values_of subst.now)
         (tree_of L.form a.now) (tree_of L.form b.now) (text_bytes text)) }
     ensures well { OnOk result (graph.new.failed ≡ false) }
+    ensures carries { IsTrue graph.new.failed ⊎ CarriesAlong N.codes N.meaning graph.old graph.new }
     ensures only { IfErr result IsShortage }
 {
     let filled = full_values(alloc, graph, subst)?;
@@ -93,6 +95,7 @@ fn test_and_unite<L: Language, N: Analysis<L>>(
     ensures well { OnOk result (graph.new.failed ≡ false) }
     ensures left { OnOk result (HasValues (values_of subst.now) (tree_of L.form a.now)) }
     ensures right { OnOk result (HasValues (values_of subst.now) (tree_of L.form b.now)) }
+    ensures carries { IsTrue graph.new.failed ⊎ CarriesAlong N.codes N.meaning graph.old graph.new }
     ensures err { IfErr result (λ e. IsShortage e
         ⊎ (AreMissing (values_of subst.now) (tree_of L.form a.now) (tree_of L.form b.now) e × (graph.new ≡ graph.old))) }
 {
@@ -122,6 +125,9 @@ pub fn union_instantiations<L: Language, N: Analysis<L>>(
     ensures unites { IfOk result (UnitesInstances graph.old graph.new (values_of subst.now)
         (tree_of L.form a.now) (tree_of L.form b.now) (text_bytes text)) }
     ensures extends { IsTrue graph.new.failed ⊎ ExtendsTo graph.old graph.new }
+
+    // Data is only lowered. New classes, and those whose data has changed, wait to be modified.
+    ensures carries { IsTrue graph.new.failed ⊎ CarriesAlong N.codes N.meaning graph.old graph.new }
 
     // Both patterns are tested before anything is added: first that they are whole, and then their variables from the
     // left.

@@ -12,6 +12,7 @@ ghost use Rattle.slotted_rule_patterns.specs.PatternCode.{pattern_in};
 ghost use Rattle.slotted_rule_patterns.specs.Values.{values_of};
 ghost use Rattle.slotted_rule_patterns.specs.Variables.{first_missing};
 ghost use Rattle.slotted_instances.specs.Building.{Grows};
+ghost use Rattle.slotted_instances.specs.Carried.{CarriesIf};
 ghost use Rattle.slotted_instances.specs.Instances.{AreValidValues, HasValues, Instantiates, IsAnswerFor};
 ghost use Rattle.slotted_instances.specs.Methods.{IsKnownMethod};
 ghost use Rattle.slotted_instances.specs.Refusals.{IsFailedOrShort, IsMissing, PassesTests, RefusesInstance};
@@ -47,6 +48,8 @@ fn instance_by<L: Language, N: Analysis<L>, M: OwnSubst<L, N>>(
     ensures err { OnErr result (IsTrue graph.new.failed ⊎ Grows graph.old graph.new) }
     ensures missing { IsSome (first_missing (tree_of L.form pattern.now) (values_of subst.now))
         → RefusesMissing (values_of subst.now) (tree_of L.form pattern.now) result × (graph.new ≡ graph.old) }
+    ensures carries { IsTrue graph.new.failed
+        ⊎ CarriesIf (IsKnownMethod M.method) N.codes N.meaning graph.old graph.new }
     ensures fails { IsTrue graph.new.failed → IsErrAnd result IsShortage }
     ensures only { IfErr result (λ e. IsShortage e
         ⊎ (IsMissing (values_of subst.now) (tree_of L.form pattern.now) e ⊎ M.refuses e)) }
@@ -70,6 +73,10 @@ pub fn subst_with<L: Language, N: Analysis<L>, M: OwnSubst<L, N>>(
     ensures instance { IfOk result (λ a. IsKnownMethod M.method
         → IsAnswerFor M.method graph.old graph.new (values_of subst.now) (tree_of L.form pattern.now) (to_applied a)) }
     ensures extends { IsTrue graph.new.failed ⊎ ExtendsTo graph.old graph.new }
+
+    // Data is only lowered. If the method is known, new classes, and those whose data has changed, wait to be modified.
+    ensures carries { IsTrue graph.new.failed
+        ⊎ CarriesIf (IsKnownMethod M.method) N.codes N.meaning graph.old graph.new }
 
     // The pattern is tested before anything is added, and before the method is asked.
     ensures tested { OnOk result (PassesTests (values_of subst.now) (tree_of L.form pattern.now)) }

@@ -4,6 +4,7 @@
 --     searches_by, applies_by form     what a rule without a condition finds, and what it does with that
 --     runner_over g n hook clock       a new runner over the graph g, with a limit of n turns and the usual other limits
 --     HasRunRules ..                   from p to q the runner has run, and this is to be reported
+--     refuses_turn form rules          why a turn is refused, and what it leaves
 --     HasRefusedRules ..               it was refused so
 --     Reports g h turns reason nodes   a run from g to h took so many turns, stopped for this reason, and leaves so many filed nodes
 --     IsRefusedRun g h e               a run from g to h was refused: what was there stays, or the graph has failed, for want of memory or slots
@@ -18,13 +19,13 @@ use Rattle.slotted_graph.specs.Extension.{ExtendsTo}
 use Rattle.slotted_model_rules.specs.Conditions.{Values}
 use Rattle.slotted_model_rules.specs.Runners.{usual_limits}
 use Rattle.slotted_model_rules.specs.Runners as model
-use Rattle.slotted_rules.specs.Applying.{NeverModified}
-use Rattle.slotted_rules.specs.Counting.{AppliesRule, RefusesRule, SearchesRule}
+use Rattle.slotted_rules.specs.Applying.{NeverModified, RefusesRules}
+use Rattle.slotted_rules.specs.Counting.{AppliesRule, BreaksRule, RefusesRule, SearchesRule}
 use Rattle.slotted_rules.specs.declared.condition.Always.{Always}
 use Rattle.slotted_rules.specs.declared.rewrite.Rewrite.{Rewrite}
 use Rattle.slotted_runs.specs.Runs.{HasRun, IsRefused, MayRefuse}
 use Rattle.slotted_runs.specs.Seen.{Parts, new_parts, stop_of}
-use Rattle.slotted_runs.specs.Turning.{Calls, RulesOnce, measures}
+use Rattle.slotted_runs.specs.Turning.{Calls, RefusesTurn, RulesOnce, measures}
 use Rattle.slotted_runs.specs.declared.hook.NoHook.{NoHook}
 use Rattle.slotted_runs.specs.declared.report.StopReason.{StopReason}
 use Rattle.slotted_lines.specs.declared.still.StillClock.{StillClock}
@@ -55,8 +56,13 @@ runner_over g n hook clock =
 abbrev pub HasRunRules : {L : Type 0} → (L → Form) → List (Rewrite L Always) → RunnerState → RunnerState → model.Report Infallible → Type 0
 HasRunRules {L} form rules p q told = HasRun TellsZero (RulesOnce (searches_by form) (applies_by form) (NeverModified L) rules) (Calls leaves_all) (measures (λ _ _. tt)) p q told
 
+-- why a turn is refused: nothing is kept of turns, and the hook is never refused
+abbrev pub refuses_turn : {L : Type 0} → (L → Form) → List (Rewrite L Always) → Graph × NoHook → ℕ → Graph × NoHook → Error → Type 0
+refuses_turn {L} form rules = RefusesTurn (RefusesRules (searches_by form) (λ _ _ _ _. ⊥) (applies_by form) (BreaksRule form (λ _ _ _ y. y ≡ true) (λ _ _ _ _. ⊥)) rules)
+    (RulesOnce (searches_by form) (applies_by form) (NeverModified L) rules) (λ _ _ _ _ _ _. ⊥) (Calls leaves_all) (λ _. ⊥)
+
 abbrev pub HasRefusedRules : {L : Type 0} → (L → Form) → List (Rewrite L Always) → RunnerState → RunnerState → Error → Type 0
-HasRefusedRules {L} form rules p q e = IsRefused TellsZero (RulesOnce (searches_by form) (applies_by form) (NeverModified L) rules) (Calls leaves_all) (measures (λ _ _. tt)) p q e
+HasRefusedRules {L} form rules p q e = IsRefused TellsZero (RulesOnce (searches_by form) (applies_by form) (NeverModified L) rules) (Calls leaves_all) (measures (λ _ _. tt)) (refuses_turn form rules) p q e
 
 pub record Reports {L : Type 0} (form : L → Form) (rules : List (Rewrite L Always)) (limit : ℕ) (g h : Graph) (turns : ℕ) (reason : StopReason Infallible) (nodes : ℕ) : Type 0 where
   pub hook : NoHook

@@ -2,7 +2,7 @@
 use Rattle.std.proofs.Common.{◌≡◌, ◌≢◌, ◌∙◌, ◌<◌, ℕ, List, [], ◌∷◌, ◌++◌, Bool, true, false, Result, Ok, Err, length, take, drop, suc, ◌+◌, ◌≤◌, append_assoc, arith, take_all, refl, sym, ap, subst, inl, inr}
 use Rattle.std.specs.Prelude.{◌↔◌, ◌⊎◌, Contains, IsErrAnd, IsErrOf, IsTrue, get_or}
 use Rattle.std.proofs.lemmas.Bool.{false≢true}
-use Rattle.std.proofs.lemmas.List.{append-nil, drop_all, take_more}
+use Rattle.std.proofs.lemmas.List.{append-nil, drop_all, take-append-drop, take_more}
 use Rattle.std.proofs.Math.Seq.{drop-cons}
 use Rattle.std.proofs.lemmas.List.Elements.{Contains-get_or}
 use Rattle.slotted_slots.specs.declared.error.Error.{Error}
@@ -13,7 +13,7 @@ use Rattle.slotted_languages.proofs.HandedOn.{handed_on}
 use Rattle.slotted_operations.specs.Graph.{Graph}
 use Rattle.slotted_graph.specs.Extension.{ExtendsTo}
 use Rattle.slotted_graph.proofs.Extending.{extends-then}
-use Rattle.slotted_rules.specs.Applying.{AreRefusedBy, CanApplyAll}
+use Rattle.slotted_rules.specs.Applying.{AreRefusedBy, CanApplyAll, StopsApplying, StopsSearching}
 use Rattle.slotted_rules.specs.Loops.{HasApplied}
 
 -- an answer without a refusal leaves a graph that has not failed
@@ -110,3 +110,45 @@ applied-whole {R} {F} applies can rules i l founds left g h so_far =
     empty : (xs : List F) → CanApplyAll can [] xs h → xs ≡ []
     empty [] c = refl
     empty (x ∷ xs) c = absurd c
+
+-- the rules before one, that one, and those after it
+pub parted : {R : Type 0} (rules : List R) (i : ℕ) (rule : R) → i < length rules → rule ≡ get_or rules i rule → rules ≡ take i rules ++ rule ∷ drop (i + 1) rules
+parted rules i rule l is =
+    let next : suc i ≡ i + 1 = omega arith in
+    sym (take-append-drop i rules)
+    ∙ ap (λ rs. take i rules ++ rs) (drop-cons rules i rule l ∙ (ap (λ r. r ∷ drop (suc i) rules) (sym is) ∙ ap (λ n. rule ∷ drop n rules) next))
+
+-- a search that is refused comes after those before it
+pub searching-stops : {R F : Type 0} (searches : R → Graph → F → Graph → Type 0) (gives_up : R → Graph → Graph → Error → Type 0) (rules : List R) (i : ℕ) (rule : R) → i < length rules → rule ≡ get_or rules i rule →
+    (founds : List F) (g f h : Graph) → SearchesAll searches (take i rules) g founds f → (e : Error) → e ≢ Failed → (e ≡ Failed) ⊎ IsShortage e ⊎ gives_up rule f h e → IsShortage e ⊎ StopsSearching searches gives_up rules g h e
+searching-stops searches gives_up rules i rule l is founds g f h searched e other (inl failed) = absurd (other failed)
+searching-stops searches gives_up rules i rule l is founds g f h searched e other (inr (inl short)) = inl short
+searching-stops searches gives_up rules i rule l is founds g f h searched e other (inr (inr refused)) = inr (record {
+  before = take i rules;
+  rule = rule;
+  after = drop (i + 1) rules;
+  whole = parted rules i rule l is;
+  founds = founds;
+  moment = f;
+  searched = searched;
+  refused = refused;
+})
+
+-- and so does an apply
+pub applying-stops : {R F : Type 0} (applies : R → F → Graph → Graph → Type 0) (breaks_off : R → F → Graph → Graph → Error → Type 0) (rules : List R) (i : ℕ) (rule : R) → i < length rules → rule ≡ get_or rules i rule →
+    (founds done left new : List F) (x : F) → founds ≡ done ++ left → left ≡ x ∷ new → (g f h : Graph) → AppliesAll applies (take i rules) done g f → (e : Error) → (IsTrue h.failed → IsShortage e) →
+    IsTrue h.failed ⊎ breaks_off rule x f h e → IsShortage e ⊎ StopsApplying applies breaks_off rules founds g h e
+applying-stops applies breaks_off rules i rule l is founds done left new x whole first g f h applied e short (inl failed) = inl (short failed)
+applying-stops applies breaks_off rules i rule l is founds done left new x whole first g f h applied e short (inr refused) = inr (record {
+  before = take i rules;
+  rule = rule;
+  after = drop (i + 1) rules;
+  whole = parted rules i rule l is;
+  done = done;
+  found = x;
+  left = new;
+  all_found = whole ∙ ap (λ xs. done ++ xs) first;
+  moment = f;
+  applied = applied;
+  refused = refused;
+})

@@ -63,37 +63,39 @@ module _ {L C : Type 0} (form : L → Form) (holds : C → Values → Graph → 
   -- the search of a rule, and that each of its answers is settled from g to h
   abbrev SearchedAndSettled : Graph → Graph → Rewrite L C → Type 0
   SearchedAndSettled g h r =
-      (before : Graph) × (after : Graph) × (found : List Values) × ExtendsTo g before × IsSearched (tree_of form r.left) before found after
+      (before : Graph) × (after : Graph) × (found : List Values) × ExtendsTo g before × IsSearched (tree_of form r.left) before found after × ExtendsTo after h
       × ((s : Values) → Contains found s → HasEquationFor g h (tree_of form r.left) (tree_of form r.right) s)
 
   settled-has : (c : C) (p q : PatternTree) (g h : Graph) (s : Values) → IsSettled (holds c) p q g h s → HasEquationFor g h p q s
   settled-has c p q g h s (inl e) = e
   settled-has c p q g h s (inr m) = absurd (never_no c s m.0 m.2)
 
-  one-settled : (rule : Rewrite L C) (found : List Values) (g e f j k h : Graph) → ExtendsTo g e → ExtendsTo g j → SearchesRule form rule e found f → applies rule found j k → ExtendsTo k h → SearchedAndSettled g h rule
-  one-settled rule found g e f j k h start end first now later =
+  one-settled : (rule : Rewrite L C) (found : List Values) (g e f j k h : Graph) → ExtendsTo g e → ExtendsTo g j → SearchesRule form rule e found f → applies rule found j k → ExtendsTo k h → ExtendsTo f h → SearchedAndSettled g h rule
+  one-settled rule found g e f j k h start end first now later last =
       let p = tree_of form rule.left in
       let q = tree_of form rule.right in
-      (e, f, found, start, first, λ s c. settled-has rule.condition p q g h s (settled-wider g j k h end later p q s (holds rule.condition) (now.settled s c)))
+      (e, f, found, start, first, last, λ s c. settled-has rule.condition p q g h s (settled-wider g j k h end later p q s (holds rule.condition) (now.settled s c)))
 
   -- searches from e on, and applies from j on, both later than g
-  each-settled : {rules : List (Rewrite L C)} {e i j h : Graph} {founds : List (List Values)} (g : Graph) → ExtendsTo g e → ExtendsTo g j → SearchesAll (SearchesRule form) rules e founds i → AppliesAll applies rules founds j h →
+  each-settled : {rules : List (Rewrite L C)} {e i j h : Graph} {founds : List (List Values)} (g : Graph) → ExtendsTo g e → ExtendsTo g j → ExtendsTo i j → SearchesAll (SearchesRule form) rules e founds i → AppliesAll applies rules founds j h →
       (r : Rewrite L C) → In r rules → SearchedAndSettled g h r
-  each-settled g start end none_searched none_applied r among = absurd among
-  each-settled g start end (one_searched {rule = rule} {found = found} first more) (one_applied now later) r among = elim among [
-    | inl is ↦ subst (SearchedAndSettled g _) (sym is) (one-settled rule found g _ _ _ _ _ start end first now (applies-extend form holds later))
-    | inr rest ↦ each-settled g (extends-then g _ _ start (extends-takes _ _ first.takes)) (extends-then g _ _ end now.extends) more later r rest
+  each-settled g start end between none_searched none_applied r among = absurd among
+  each-settled g start end between (one_searched {rule = rule} {found = found} first more) (one_applied now later) r among = elim among [
+    | inl is ↦ subst (SearchedAndSettled g _) (sym is) (one-settled rule found g _ _ _ _ _ start end first now (applies-extend form holds later)
+        (extends-then _ _ _ (searches-extend form holds more) (extends-then _ _ _ between (extends-then _ _ _ now.extends (applies-extend form holds later)))))
+    | inr rest ↦ each-settled g (extends-then g _ _ start (extends-takes _ _ first.takes)) (extends-then g _ _ end now.extends) (extends-then _ _ _ between now.extends) more later r rest
   ]
 
   -- for each match of each rule the instances of both sides are equal
   pub rules-applied : (rules : List (Rewrite L C)) (g h : Graph) → IsGraph h → AppliesRules (SearchesRule form) applies rules g h → (r : Rewrite L C) → Contains rules r → HasAppliedMatches g h (tree_of form r.left) (tree_of form r.right)
   rules-applied rules g h is a r c =
-      let e = each-settled g (extends-itself g) (searches-extend form holds a.by_searches) a.by_searches a.by_applies r (In-Contains rules r c) in
+      let e = each-settled g (extends-itself g) (searches-extend form holds a.by_searches) (extends-itself a.searched) a.by_searches a.by_applies r (In-Contains rules r c) in
       record {
         before = e.0;
         after = e.1;
         found = e.2;
         extends = e.3;
         searched = e.4;
-        equal = λ s d. equation-equal h is g (tree_of form r.left) (tree_of form r.right) s (e.5 s d);
+        end = e.5;
+        equal = λ s d. equation-equal h is g (tree_of form r.left) (tree_of form r.right) s (e.6 s d);
       }

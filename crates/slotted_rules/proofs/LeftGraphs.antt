@@ -54,6 +54,18 @@ module _ {A : Type 0} (g h i : Graph) (r s : Result A Error) (same : s ≡ r) (s
       by (Ok x) other p = subst (P x) (sym (other (λ n. n))) p
       by (Err e) other p = tt
 
+  -- a refusal is what it was, or the graph has failed
+  pub left-err : (P : Error → Graph → Type 0) → IfErr r (λ e. IsShortage e ⊎ P e h) → IfErr s (λ e. IsTrue i.failed ⊎ P e i)
+  left-err P holds = subst (λ (t : Result A Error). IfErr t (λ e. IsTrue i.failed ⊎ P e i)) (sym same) (by r short other holds)
+    where
+      by : (r : Result A Error) → (IsErrAnd r IsShortage → i ≡ record h { failed = true }) → (¬ IsErrAnd r IsShortage → i ≡ h) → IfErr r (λ e. IsShortage e ⊎ P e h) → IfErr r (λ e. IsTrue i.failed ⊎ P e i)
+      by (Ok x) short other holds = tt
+      by (Err e) short other (inl s) = inl (ap (λ (x : Graph). x.failed) (short s))
+      by (Err e) short other (inr p) = elim (short_or e) [
+        | inl s ↦ inl (ap (λ (x : Graph). x.failed) (short s))
+        | inr n ↦ inr (subst (P e) (sym (other n)) p)
+      ]
+
   -- no refusal is one of a failed graph
   pub left-failed : (refuses : Error → Type 0) → ¬ refuses Failed → g.failed ≡ false → IfErr r (λ e. IsShortage e ⊎ refuses e) → IsErrOf s Failed ↔ IsTrue g.failed
   left-failed refuses never well err = (λ is. absurd (none r (sym same ∙ is) err), λ failed. absurd (false≢true (sym well ∙ failed)))

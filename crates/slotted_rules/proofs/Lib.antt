@@ -1,4 +1,5 @@
 -- Lemmas of rules.
+pub mod Lowering
 pub mod AppliedRules
 pub mod Counted
 pub mod Progress

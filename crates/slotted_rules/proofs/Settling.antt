@@ -1,6 +1,6 @@
 -- What a written rule leaves for one answer after another.
 use Rattle.std.proofs.Common.{◌≡◌, ◌∙◌, ◌<◌, ◌≤◌, ◌+◌, ℕ, List, [], ◌∷◌, ◌++◌, length, take, take_all, ap, sym, subst, inl, inr, arith, refl, length-append}
-use Rattle.std.specs.Prelude.{Bool, true, false, Contains, Option, Some, None, IfOk, IsSome, OnOk, Result, Ok, Err, slice_index_or}
+use Rattle.std.specs.Prelude.{◌⊎◌, IsTrue, Bool, true, false, Contains, Option, Some, None, IfOk, IsSome, OnOk, Result, Ok, Err, slice_index_or}
 use Rattle.std.proofs.lemmas.Bool.{cases_eq, cases_lt, false≢true}
 use Rattle.std.proofs.lemmas.List.{get_or_append_left, get_or_default, take_more}
 use Rattle.std.proofs.lemmas.List.Elements.{Contains-get_or}
@@ -8,6 +8,7 @@ use Rattle.slotted_slots.specs.Table.{AllKnown}
 use Rattle.slotted_theory.specs.Nameless.{DTerm}
 use Rattle.std.specs.Int.{from_bool}
 use Rattle.slotted_slots.specs.declared.error.Error.{Error}
+use Rattle.slotted_slots.specs.Error.{IsShortage}
 use Rattle.slotted_patterns.specs.Tree.{PatternTree}
 use Rattle.slotted_model.specs.Growth.{Extends}
 use Rattle.slotted_model.specs.ProofList.{Equation, ProofEntry, equation_at, explicit, step_at}
@@ -28,7 +29,7 @@ use Rattle.slotted_instances.proofs.FilledValues.{fills-wider}
 use Rattle.slotted_instances.proofs.InstanceEquations.{stored-length, united-equation, united-fills, united-pairs, united-representatives}
 use Rattle.slotted_instances.proofs.Putting.{representatives-longer}
 use Rattle.slotted_rules.specs.Loops.{HasAppliedSome}
-use Rattle.slotted_rules.specs.Rewriting.{AppliesEach, AppliesOne, AreFromRule, ComesFromRule, HasEntryFor, HasEquationFor, IsEquationFor, IsSettled, LeavesUnited, asserts, next_answer, no_answer, passes_over}
+use Rattle.slotted_rules.specs.Rewriting.{AppliesEach, AppliesOne, AreFromRule, BreaksOff, ComesFromRule, HasEntryFor, HasEquationFor, IsEquationFor, IsRefusedRewrite, IsSettled, LeavesUnited, RefusesOne, asserts, next_answer, no_answer, passes_over}
 
 -- what is known is known later
 known-later : (g h : Graph) → ExtendsTo g h → (given : List ℕ) → AllKnown g.table given → AllKnown h.table given
@@ -244,3 +245,25 @@ all-applied holds p q name found i n g h le a = (
   },
   refl,
 )
+
+-- a refusal at one answer is one of the rule
+pub refused-rewrite : (holds : Values → Graph → Bool → Type 0) (refuses : Values → Graph → Error → Type 0) (q : PatternTree) (s : Values) (g : Graph) (e : Error) → IsShortage e ⊎ RefusesOne holds refuses q s g e → IsShortage e ⊎ IsRefusedRewrite refuses q e
+refused-rewrite holds refuses q s g e (inl short) = inl short
+refused-rewrite holds refuses q s g e (inr (inl refused)) = inr (inr (s, g, refused))
+refused-rewrite holds refuses q s g e (inr (inr r)) = inr (inl (r.1, r.2))
+
+-- and so the rule breaks off there
+pub breaks-off : (holds : Values → Graph → Bool → Type 0) (refuses : Values → Graph → Error → Type 0) (p q : PatternTree) (name : List ℕ) (found : List Values) (i n : ℕ) → i < length found → (g f : Graph) → HasAppliedSome holds p q name found i n g f →
+    (h : Graph) (e : Error) → IsTrue h.failed ⊎ (h ≡ f) → (IsTrue h.failed → IsShortage e) → IsShortage e ⊎ RefusesOne holds refuses q (slice_index_or found i []) f e → IsShortage e ⊎ BreaksOff holds refuses p q name found g h e
+breaks-off holds refuses p q name found i n l g f so_far h e unchanged fails (inl short) = inl short
+breaks-off holds refuses p q name found i n l g f so_far h e (inl failed) fails (inr refused) = inl (fails failed)
+breaks-off holds refuses p q name found i n l g f so_far h e (inr same) fails (inr refused) = inr (subst (λ (k : Graph). BreaksOff holds refuses p q name found g k e) (sym same) (record {
+  graph = so_far.graph;
+  extends = so_far.extends;
+  origin = so_far.origin;
+  answer = i;
+  within = l;
+  united = n;
+  in_turn = so_far.in_turn;
+  refused = refused;
+}))

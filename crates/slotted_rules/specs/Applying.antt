@@ -4,11 +4,15 @@
 --     HasProgressed g h                 the progress measures of the graphs differ
 --     AreModified .. g h                classes were modified, or nothing was done where classes are never modified
 --     NeverModified L g h               so it is of the analysis that keeps nothing, by which no graph changes
+--     StopsSearching .. g h e           from g to h some rules were searched, and the next one was refused
+--     StopsApplying .. g h e            some were applied to what was found, and the next one was refused
+--     RefusesRules .. g h e             one was refused, when it was searched or applied
 --     ThenModifies rules after g h      the rules lead from g to a graph from which `after` leads to h
-use Rattle.std.specs.Prelude.{◌≢◌, List, [], ◌∷◌, Bool, Contains, false}
+use Rattle.std.specs.Prelude.{◌≢◌, ◌≡◌, List, [], ◌∷◌, ◌++◌, Bool, Contains, false}
 use Rattle.std.specs.Coded.{Coded}
 use Rattle.slotted_slots.specs.declared.error.Error.{Error}
 use Rattle.slotted_reports.specs.declared.measure.ProgressMeasure.{ProgressMeasure}
+use Rattle.slotted_model_rules.specs.Runners.{AppliesAll, SearchesAll}
 use Rattle.slotted_operations.specs.Graph.{Graph}
 use Rattle.slotted_operations.specs.Image.{Image}
 use Rattle.slotted_analyses.specs.Meaning.{Meaning, no_data, unit_code}
@@ -39,3 +43,31 @@ pub record ThenModifies (rules after : Graph → Graph → Type 0) (g h : Graph)
   pub applied : Graph
   pub by_rules : rules g applied
   pub by_edits : after applied h
+
+pub record StopsSearching {R F : Type 0} (searches : R → Graph → F → Graph → Type 0) (gives_up : R → Graph → Graph → Error → Type 0) (rules : List R) (g h : Graph) (e : Error) : Type 0 where
+  pub before : List R
+  pub rule : R
+  pub after : List R
+  pub whole : rules ≡ before ++ rule ∷ after
+  pub founds : List F
+  pub moment : Graph
+  pub searched : SearchesAll searches before g founds moment
+  pub refused : gives_up rule moment h e
+
+pub record StopsApplying {R F : Type 0} (applies : R → F → Graph → Graph → Type 0) (breaks_off : R → F → Graph → Graph → Error → Type 0) (rules : List R) (founds : List F) (g h : Graph) (e : Error) : Type 0 where
+  pub before : List R
+  pub rule : R
+  pub after : List R
+  pub whole : rules ≡ before ++ rule ∷ after
+  pub done : List F
+  pub found : F
+  pub left : List F
+  pub all_found : founds ≡ done ++ found ∷ left
+  pub moment : Graph
+  pub applied : AppliesAll applies before done g moment
+  pub refused : breaks_off rule found moment h e
+
+pub data RefusesRules {R F : Type 0} (searches : R → Graph → F → Graph → Type 0) (gives_up : R → Graph → Graph → Error → Type 0) (applies : R → F → Graph → Graph → Type 0) (breaks_off : R → F → Graph → Graph → Error → Type 0)
+    (rules : List R) (g h : Graph) (e : Error) : Type 0 where
+  search_refused : StopsSearching searches gives_up rules g h e → RefusesRules searches gives_up applies breaks_off rules g h e
+  apply_refused : (founds : List F) (searched : Graph) → SearchesAll searches rules g founds searched → StopsApplying applies breaks_off rules founds searched h e → RefusesRules searches gives_up applies breaks_off rules g h e

@@ -3,6 +3,7 @@
 --     CanApplyRule form r found g          they can be applied
 --     AppliesRule form holds r found g h   an apply of r to them leaves h
 --     RefusesRule form refuses r e         why r is refused
+--     BreaksRule form holds refuses r found g h e    an apply of r to them is refused, and leaves h
 --     UnitesRule form holds r k g h        an apply of r to the answers k.0 unites k.1 times what was not found equal before
 --     counts_in ks                         what is told of each rule
 --     CountsRules form holds rules g counts h      all rules are searched, then each is applied, and this is told of them
@@ -17,7 +18,7 @@ use Rattle.slotted_operations.specs.Graph.{Graph}
 use Rattle.slotted_rules.specs.declared.counting.RuleCounts.{RuleCounts}
 use Rattle.slotted_rules.specs.declared.rewrite.Rewrite.{Rewrite}
 use Rattle.slotted_rules.specs.Applying.{ThenModifies}
-use Rattle.slotted_rules.specs.Rewriting.{CanBeApplied, IsRefusedRewrite, IsSearched, LeavesApplied, LeavesUnited}
+use Rattle.slotted_rules.specs.Rewriting.{BreaksOff, CanBeApplied, IsRefusedRewrite, IsSearched, LeavesApplied, LeavesUnited}
 
 abbrev pub SearchesRule : {L C : Type 0} → (L → Form) → Rewrite L C → Graph → List Values → Graph → Type 0
 SearchesRule form r g found h = IsSearched (tree_of form r.left) g found h
@@ -33,6 +34,9 @@ UnitesRule form holds r k g h = LeavesUnited (holds r.condition) (tree_of form r
 
 abbrev pub RefusesRule : {L C : Type 0} → (L → Form) → (C → Values → Graph → Error → Type 0) → Rewrite L C → Error → Type 0
 RefusesRule form refuses r e = IsRefusedRewrite (refuses r.condition) (tree_of form r.right) e
+
+abbrev pub BreaksRule : {L C : Type 0} → (L → Form) → (C → Values → Graph → Bool → Type 0) → (C → Values → Graph → Error → Type 0) → Rewrite L C → List Values → Graph → Graph → Error → Type 0
+BreaksRule form holds refuses r found g h e = BreaksOff (holds r.condition) (refuses r.condition) (tree_of form r.left) (tree_of form r.right) (string_bytes r.name) found g h e
 
 abbrev pub counts_in : List (List Values × ℕ) → List RuleCounts
 counts_in = map (λ k. record { found = length k.0; united = k.1 })

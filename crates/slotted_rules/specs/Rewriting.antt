@@ -12,7 +12,9 @@
 --     AppliesEach holds p q name found n g h    and for one after another, of which n did
 --     LeavesUnited .. n                what an apply leaves, in which n answers did
 --     IsRefusedRewrite ..              why an apply is refused
-use Rattle.std.specs.Prelude.{◌≡◌, ◌⊎◌, ◌<◌, ◌≤◌, ◌+◌, ℕ, List, [], ◌∷◌, length, Contains, Bool, true, false, Some, None, IsSome}
+--     RefusesOne ..                    why it is refused for one answer
+--     BreaksOff ..                     what an apply leaves that is refused
+use Rattle.std.specs.Prelude.{◌≡◌, ◌⊎◌, ◌<◌, ◌≤◌, ◌+◌, ℕ, List, [], ◌∷◌, length, Contains, Bool, true, false, Some, None, IsSome, slice_index_or, take}
 use Rattle.std.specs.Int.{from_bool}
 use Rattle.slotted_slots.specs.declared.error.Error.{Error}
 use Rattle.slotted_slots.specs.declared.error.Error.TheVariants.{NotATerm}
@@ -130,3 +132,18 @@ IsNotATerm e = ⊥
 -- the right side has a wrong number of child patterns at some node, or the condition is refused for some answer
 abbrev pub IsRefusedRewrite : (Values → Graph → Error → Type 0) → PatternTree → Error → Type 0
 IsRefusedRewrite refuses q e = (IsNotATerm e × (pattern_in q ≡ None)) ⊎ ((s : Values) × (g : Graph) × refuses s g e)
+
+-- the condition is refused, or it is yes and the right side has a wrong number of child patterns at some node
+abbrev pub RefusesOne : (Values → Graph → Bool → Type 0) → (Values → Graph → Error → Type 0) → PatternTree → Values → Graph → Error → Type 0
+RefusesOne holds refuses q s g e = refuses s g e ⊎ (holds s g true × IsNotATerm e × (pattern_in q ≡ None))
+
+-- the answers before one were applied in turn, and that one was refused in the graph that they left
+pub record BreaksOff (holds : Values → Graph → Bool → Type 0) (refuses : Values → Graph → Error → Type 0) (p q : PatternTree) (name : List ℕ) (found : List Values) (g h : Graph) (e : Error) : Type 0 where
+  pub graph : IsGraph h
+  pub extends : ExtendsTo g h
+  pub origin : AreFromRule holds p q name found g h
+  pub answer : ℕ
+  pub within : answer < length found
+  pub united : ℕ
+  pub in_turn : AppliesEach holds p q name (take answer found) united g h
+  pub refused : RefusesOne holds refuses q (slice_index_or found answer []) h e

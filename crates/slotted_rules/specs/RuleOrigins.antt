@@ -1,6 +1,6 @@
 -- Where the equations that rules assert come from.
 --     ComesFromRules form holds rules g h n    the entry n of h is an equation of instances of both sides of one of the rules, under an answer of its search
---                                              whose condition was yes in a graph between g and h, and has the rule's name
+--                                              between g and h, whose condition was yes in a graph between them, and has the rule's name
 --     AreFromRules form holds rules g h        so is each explicit entry that g has not
 --     ComesFromEdits after g h n               the entry n entered where `after`, rounds of edits, leads from a graph after g to one before h
 --     AreFromRulesOrEdits form holds rules after g h   each explicit entry that g has not comes from a rule, or from edits
@@ -22,6 +22,7 @@ pub record ComesFromRules {L C : Type 0} (form : L → Form) (holds : C → Valu
   pub found : List Values
   pub start : ExtendsTo g before
   pub searched : IsSearched (tree_of form rule.left) before found after
+  pub end : ExtendsTo after h
   pub comes : ComesFromRule (holds rule.condition) (tree_of form rule.left) (tree_of form rule.right) (string_bytes rule.name) found g h n
 
 abbrev pub AreFromRules : {L C : Type 0} → (L → Form) → (C → Values → Graph → Bool → Type 0) → List (Rewrite L C) → Graph → Graph → Type 0

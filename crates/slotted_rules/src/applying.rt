@@ -2,9 +2,11 @@
 ghost use Rattle.std.specs.Prelude.{◌≡◌, ◌↔◌, ◌⊎◌, false, All, length, IsTrue, IsErrAnd, IsErrOf, IfOk, IfErr, OnOk};
 ghost use Rattle.slotted_slots.specs.Error.{IsShortage};
 ghost use Rattle.slotted_model_rules.specs.Runners.{AppliesAll, AppliesRules, SearchesAll};
+ghost use Rattle.slotted_graph.specs.Analysed.{LowersData};
 ghost use Rattle.slotted_graph.specs.Extension.{ExtendsTo};
 ghost use Rattle.slotted_graph.specs.Writing.{IfUnmodified};
-ghost use Rattle.slotted_rules.specs.Applying.{AreModified, AreRefusedBy, CanApplyAll, HasProgressed, ThenModifies};
+ghost use Rattle.slotted_rules.specs.Applying.{AreModified, AreRefusedBy, CanApplyAll, HasProgressed, RefusesRules};
+ghost use Rattle.slotted_rules.specs.Applying.{StopsApplying, StopsSearching, ThenModifies};
 
 use crate::failing::failing;
 use crate::modifying::modify_classes;
@@ -43,7 +45,10 @@ pub(crate) fn search_all<L: Language, N: Analysis<L>, R: RewriteT<L, N>>(
     ensures ok { IfOk result (λ f. SearchesAll R.searches rules.now graph.old f.items graph.new) }
     ensures can { IfOk result (λ f. CanApplyAll R.can_apply rules.now f.items graph.new) }
     ensures extends { IsTrue graph.new.failed ⊎ ExtendsTo graph.old graph.new }
+    ensures lowers { IsTrue graph.new.failed ⊎ LowersData N.codes N.meaning graph.old graph.new }
     ensures fails { IsTrue graph.new.failed → IsErrAnd result IsShortage }
+    ensures refused { IfErr result
+        (λ e. IsShortage e ⊎ StopsSearching R.searches R.gives_up rules.now graph.old graph.new e) }
     ensures err { IfErr result (λ e. IsShortage e ⊎ AreRefusedBy R.refuses rules.now e) }
 {
     let mut found = VecDeque::new(alloc);
@@ -65,7 +70,10 @@ fn apply_all<L: Language, N: Analysis<L>, R: RewriteT<L, N>>(
     requires can { CanApplyAll R.can_apply rules.now found.items graph.old }
     ensures ok { OnOk result (AppliesAll R.applies rules.now found.items graph.old graph.new) }
     ensures extends { IsTrue graph.new.failed ⊎ ExtendsTo graph.old graph.new }
+    ensures lowers { IsTrue graph.new.failed ⊎ LowersData N.codes N.meaning graph.old graph.new }
     ensures fails { IsTrue graph.new.failed → IsErrAnd result IsShortage }
+    ensures refused { IfErr result (λ e. IsShortage e
+        ⊎ StopsApplying R.applies R.breaks_off rules.now found.items graph.old graph.new e) }
     ensures err { IfErr result (λ e. IsShortage e ⊎ AreRefusedBy R.refuses rules.now e) }
 {
     let mut left = found;
@@ -88,7 +96,10 @@ fn search_and_apply<L: Language, N: Analysis<L>, R: RewriteT<L, N>>(
     requires valid { All (λ r. R.valid r graph.old) rules.now }
     ensures rules { OnOk result (AppliesRules R.searches R.applies rules.now graph.old graph.new) }
     ensures extends { IsTrue graph.new.failed ⊎ ExtendsTo graph.old graph.new }
+    ensures lowers { IsTrue graph.new.failed ⊎ LowersData N.codes N.meaning graph.old graph.new }
     ensures fails { IsTrue graph.new.failed → IsErrAnd result IsShortage }
+    ensures refused { IfErr result (λ e. IsShortage e
+        ⊎ RefusesRules R.searches R.gives_up R.applies R.breaks_off rules.now graph.old graph.new e) }
     ensures err { IfErr result (λ e. IsShortage e ⊎ AreRefusedBy R.refuses rules.now e) }
 {
     let found = search_all(alloc, graph, rules)?;
@@ -106,7 +117,10 @@ fn apply_and_modify<L: Language, N: Analysis<L>, R: RewriteT<L, N>>(
     ensures modified { OnOk result (ThenModifies (AppliesRules R.searches R.applies rules.now)
         (AreModified N.codes N.meaning N.may_ask N.modifies) graph.old graph.new) }
     ensures extends { IsTrue graph.new.failed ⊎ ExtendsTo graph.old graph.new }
+    ensures lowers { IsTrue graph.new.failed ⊎ LowersData N.codes N.meaning graph.old graph.new }
     ensures fails { IsTrue graph.new.failed → IsErrAnd result IsShortage }
+    ensures refused { IfErr result (λ e. IsShortage e
+        ⊎ RefusesRules R.searches R.gives_up R.applies R.breaks_off rules.now graph.old graph.new e) }
     ensures err { IfErr result (λ e. IsShortage e ⊎ AreRefusedBy R.refuses rules.now e) }
 {
     search_and_apply(alloc, graph, rules)?;
@@ -131,8 +145,13 @@ pub fn apply_rewrites<L: Language, N: Analysis<L>, R: RewriteT<L, N>>(
         (OnOk result (AppliesRules R.searches R.applies rules.now graph.old graph.new)) }
     ensures changed { IfOk result (λ y. IsTrue y ↔ HasProgressed graph.old.image graph.new.image) }
 
-    // What was there stays, even if a rule is refused.
+    // What was there stays, even if a rule is refused. Data is only lowered, and the limit of rounds stays.
     ensures extends { IsTrue graph.new.failed ⊎ ExtendsTo graph.old graph.new }
+    ensures lowers { IsTrue graph.new.failed ⊎ LowersData N.codes N.meaning graph.old graph.new }
+
+    // A refused rule is told, with what was done before it. Then no class is modified.
+    ensures refused { IfErr result (λ e. IsTrue graph.new.failed
+        ⊎ RefusesRules R.searches R.gives_up R.applies R.breaks_off rules.now graph.old graph.new e) }
     ensures stays { IsTrue graph.old.failed → graph.new ≡ graph.old }
     ensures failed { IsErrOf result Error.Failed ↔ IsTrue graph.old.failed }
     ensures fails { IsTrue graph.new.failed ↔ IsErrAnd result (λ e. (e ≡ Error.Failed) ⊎ IsShortage e) }

@@ -2,6 +2,7 @@
 ghost use Rattle.std.specs.Prelude.{◌≡◌, ◌↔◌, ◌⊎◌, [], false, length, All, IsTrue, IsErrAnd, IsErrOf, IfOk, IfErr, OnOk};
 ghost use Rattle.slotted_slots.specs.Error.{IsShortage};
 ghost use Rattle.slotted_patterns.specs.View.{tree_of};
+ghost use Rattle.slotted_graph.specs.Analysed.{LowersData};
 ghost use Rattle.slotted_graph.specs.Extension.{ExtendsTo};
 ghost use Rattle.slotted_graph.specs.Writing.{IfUnmodified};
 ghost use Rattle.slotted_rules.specs.Applying.{AreModified, AreRefusedBy, CanApplyAll, HasProgressed};
@@ -53,6 +54,7 @@ fn count_one<L: Language, N: Analysis<L>, C: Cond<L, N>>(
     requires found { CanBeApplied (tree_of L.form rule.now.left) found graph.old }
     ensures ok { IfOk result (λ k. (k.found ≡ length found) × UnitesRule L.form C.answers rule.now (found, k.united) graph.old graph.new) }
     ensures extends { IsTrue graph.new.failed ⊎ ExtendsTo graph.old graph.new }
+    ensures lowers { IsTrue graph.new.failed ⊎ LowersData N.codes N.meaning graph.old graph.new }
     ensures fails { IsTrue graph.new.failed → IsErrAnd result (λ e. (e ≡ Error.Failed) ⊎ IsShortage e) }
     ensures failed { IsErrOf result Error.Failed ↔ IsTrue graph.old.failed }
     ensures err { IfErr result (λ e. (e ≡ Error.Failed) ⊎ IsShortage e ⊎ RefusesRule L.form C.refuses rule.now e) }
@@ -78,6 +80,7 @@ fn count_all<L: Language, N: Analysis<L>, C: Cond<L, N>>(
     requires none { counts.old.items ≡ [] }
     ensures ok { OnOk result (AppliesCounted L.form C.answers rules.now found.items graph.old counts.new.items graph.new) }
     ensures extends { IsTrue graph.new.failed ⊎ ExtendsTo graph.old graph.new }
+    ensures lowers { IsTrue graph.new.failed ⊎ LowersData N.codes N.meaning graph.old graph.new }
     ensures fails { IsTrue graph.new.failed → IsErrAnd result IsShortage }
     ensures err { IfErr result (λ e. IsShortage e ⊎ AreRefusedBy (RefusesRule L.form C.refuses) rules.now e) }
 {
@@ -101,6 +104,7 @@ fn search_and_count<L: Language, N: Analysis<L>, C: Cond<L, N>>(
     requires valid { All (CanBeSearched L.form graph.old.table) rules.now }
     ensures counts { IfOk result (λ v. CountsRules L.form C.answers rules.now graph.old v.items graph.new) }
     ensures extends { IsTrue graph.new.failed ⊎ ExtendsTo graph.old graph.new }
+    ensures lowers { IsTrue graph.new.failed ⊎ LowersData N.codes N.meaning graph.old graph.new }
     ensures fails { IsTrue graph.new.failed → IsErrAnd result IsShortage }
     ensures err { IfErr result (λ e. IsShortage e ⊎ AreRefusedBy (RefusesRule L.form C.refuses) rules.now e) }
 {
@@ -121,6 +125,7 @@ fn count_and_modify<L: Language, N: Analysis<L>, C: Cond<L, N>>(
     ensures modified { IfOk result (λ v. CountsAndModifies L.form C.answers rules.now
         (AreModified N.codes N.meaning N.may_ask N.modifies) graph.old v.items graph.new) }
     ensures extends { IsTrue graph.new.failed ⊎ ExtendsTo graph.old graph.new }
+    ensures lowers { IsTrue graph.new.failed ⊎ LowersData N.codes N.meaning graph.old graph.new }
     ensures fails { IsTrue graph.new.failed → IsErrAnd result IsShortage }
     ensures err { IfErr result (λ e. IsShortage e ⊎ AreRefusedBy (RefusesRule L.form C.refuses) rules.now e) }
 {
@@ -141,6 +146,7 @@ fn count_turn<L: Language, N: Analysis<L>, C: Cond<L, N>>(
         (AreModified N.codes N.meaning N.may_ask N.modifies) graph.old t.rules.items graph.new) }
     ensures changed { IfOk result (λ t. IsTrue t.changed ↔ HasProgressed graph.old.image graph.new.image) }
     ensures extends { IsTrue graph.new.failed ⊎ ExtendsTo graph.old graph.new }
+    ensures lowers { IsTrue graph.new.failed ⊎ LowersData N.codes N.meaning graph.old graph.new }
     ensures fails { IsTrue graph.new.failed → IsErrAnd result IsShortage }
     ensures err { IfErr result (λ e. IsShortage e ⊎ AreRefusedBy (RefusesRule L.form C.refuses) rules.now e) }
 {
@@ -171,8 +177,9 @@ pub fn apply_counted<L: Language, N: Analysis<L>, C: Cond<L, N>>(
         (IfOk result (λ t. CountsRules L.form C.answers rules.now graph.old t.rules.items graph.new)) }
     ensures changed { IfOk result (λ t. IsTrue t.changed ↔ HasProgressed graph.old.image graph.new.image) }
 
-    // What was there stays, even if a rule is refused.
+    // What was there stays, even if a rule is refused. Data is only lowered, and the limit of rounds stays.
     ensures extends { IsTrue graph.new.failed ⊎ ExtendsTo graph.old graph.new }
+    ensures lowers { IsTrue graph.new.failed ⊎ LowersData N.codes N.meaning graph.old graph.new }
     ensures stays { IsTrue graph.old.failed → graph.new ≡ graph.old }
     ensures failed { IsErrOf result Error.Failed ↔ IsTrue graph.old.failed }
     ensures fails { IsTrue graph.new.failed ↔ IsErrAnd result (λ e. (e ≡ Error.Failed) ⊎ IsShortage e) }

@@ -6,13 +6,16 @@ ghost use Rattle.slotted_patterns.specs.View.{tree_of};
 ghost use Rattle.slotted_rule_patterns.specs.PatternCode.{pattern_in};
 ghost use Rattle.slotted_rule_patterns.specs.Values.{values_of};
 ghost use Rattle.slotted_rule_patterns.specs.Variables.{first_missing};
+ghost use Rattle.slotted_graph.specs.Analysed.{LowersData};
 ghost use Rattle.slotted_graph.specs.Extension.{ExtendsTo};
 ghost use Rattle.slotted_graph.specs.Matching.{AreValidValues};
 ghost use Rattle.slotted_graph.specs.States.{IsGraph};
+ghost use Rattle.slotted_instances.specs.Carried.{CarriesAlong};
 ghost use Rattle.slotted_instances.specs.Refusals.{HavePassed};
 ghost use Rattle.slotted_instances.specs.Uniting.{UnitesInstances};
-ghost use Rattle.slotted_rules.specs.Rewriting.{AppliesOne, AreFromRule, CanBeApplied, IsNotATerm, IsRefusedRewrite};
-ghost use Rattle.slotted_rules.specs.Rewriting.{IsSearched, LacksSlots, LeavesApplied, LeavesUnited};
+ghost use Rattle.slotted_rules.specs.Rewriting.{AppliesOne, AreFromRule, BreaksOff, CanBeApplied, IsNotATerm};
+ghost use Rattle.slotted_rules.specs.Rewriting.{IsRefusedRewrite, IsSearched, LacksSlots, LeavesApplied, LeavesUnited};
+ghost use Rattle.slotted_rules.specs.Rewriting.{RefusesOne};
 ghost use Rattle.slotted_operations.specs.Graph.{OnlyTakesSlots};
 ghost use Rattle.slotted_rules.specs.Written.{CanBeSearched, PassesTests};
 
@@ -48,6 +51,7 @@ fn unite<L: Language, N: Analysis<L>, C: Drop>(
     ensures tested { OnOk result (HavePassed (values_of subst.now)
         (tree_of L.form rule.now.left) (tree_of L.form rule.now.right)) }
     ensures unchanged { IsErr result → IsTrue graph.new.failed ⊎ (graph.new ≡ graph.old) }
+    ensures carries { IsTrue graph.new.failed ⊎ CarriesAlong N.codes N.meaning graph.old graph.new }
     ensures fails { IsTrue graph.new.failed → IsErrAnd result IsShortage }
     ensures err { IfErr result (λ e. IsShortage e
         ⊎ (IsNotATerm e × (pattern_in (tree_of L.form rule.now.right) ≡ None))) }
@@ -71,9 +75,10 @@ fn apply_to<L: Language, N: Analysis<L>, C: Cond<L, N>>(
     ensures applies { IfOk result (AppliesOne (C.answers rule.now.condition) (tree_of L.form rule.now.left)
         (tree_of L.form rule.now.right) (string_bytes rule.now.name) (values_of subst.now) graph.old graph.new) }
     ensures unchanged { IsErr result → IsTrue graph.new.failed ⊎ (graph.new ≡ graph.old) }
+    ensures carries { IsTrue graph.new.failed ⊎ CarriesAlong N.codes N.meaning graph.old graph.new }
     ensures fails { IsTrue graph.new.failed → IsErrAnd result IsShortage }
-    ensures err { IfErr result (λ e. IsShortage e
-        ⊎ IsRefusedRewrite (C.refuses rule.now.condition) (tree_of L.form rule.now.right) e) }
+    ensures err { IfErr result (λ e. IsShortage e ⊎ RefusesOne (C.answers rule.now.condition)
+        (C.refuses rule.now.condition) (tree_of L.form rule.now.right) (values_of subst.now) graph.old e) }
 {
     if !rule.condition.holds(alloc, subst, graph)? {
         return Ok(false);
@@ -97,9 +102,10 @@ fn apply_answer<L: Language, N: Analysis<L>, C: Cond<L, N>>(
     ensures applies { IfOk result (AppliesOne (C.answers rule.now.condition) (tree_of L.form rule.now.left)
         (tree_of L.form rule.now.right) (string_bytes rule.now.name) (slice_index_or found.now answer []) graph.old graph.new) }
     ensures unchanged { IsErr result → IsTrue graph.new.failed ⊎ (graph.new ≡ graph.old) }
+    ensures carries { IsTrue graph.new.failed ⊎ CarriesAlong N.codes N.meaning graph.old graph.new }
     ensures fails { IsTrue graph.new.failed → IsErrAnd result IsShortage }
-    ensures err { IfErr result (λ e. IsShortage e
-        ⊎ IsRefusedRewrite (C.refuses rule.now.condition) (tree_of L.form rule.now.right) e) }
+    ensures err { IfErr result (λ e. IsShortage e ⊎ RefusesOne (C.answers rule.now.condition)
+        (C.refuses rule.now.condition) (tree_of L.form rule.now.right) (slice_index_or found.now answer []) graph.old e) }
 {
     let subst = found.substitution(alloc, answer)?;
     apply_to(alloc, graph, rule, &subst)
@@ -119,9 +125,13 @@ fn apply_found<L: Language, N: Analysis<L>, C: Cond<L, N>>(
     ensures applied { IfOk result (LeavesUnited (C.answers rule.now.condition) (tree_of L.form rule.now.left)
         (tree_of L.form rule.now.right) (string_bytes rule.now.name) found.now graph.old graph.new) }
     ensures extends { IsTrue graph.new.failed ⊎ ExtendsTo graph.old graph.new }
+    ensures carries { IsTrue graph.new.failed ⊎ CarriesAlong N.codes N.meaning graph.old graph.new }
     ensures origin { IsTrue graph.new.failed ⊎ AreFromRule (C.answers rule.now.condition) (tree_of L.form rule.now.left)
         (tree_of L.form rule.now.right) (string_bytes rule.now.name) found.now graph.old graph.new }
     ensures fails { IsTrue graph.new.failed → IsErrAnd result IsShortage }
+    ensures left { IfErr result (λ e. IsShortage e
+        ⊎ BreaksOff (C.answers rule.now.condition) (C.refuses rule.now.condition)
+        (tree_of L.form rule.now.left) (tree_of L.form rule.now.right) (string_bytes rule.now.name) found.now graph.old graph.new e) }
     ensures err { IfErr result (λ e. IsShortage e
         ⊎ IsRefusedRewrite (C.refuses rule.now.condition) (tree_of L.form rule.now.right) e) }
 {
@@ -150,9 +160,13 @@ pub fn apply_matches<L: Language, N: Analysis<L>, C: Cond<L, N>>(
     ensures origin { IsTrue graph.new.failed ⊎ AreFromRule (C.answers rule.now.condition) (tree_of L.form rule.now.left)
         (tree_of L.form rule.now.right) (string_bytes rule.now.name) found.now graph.old graph.new }
     ensures extends { IsTrue graph.new.failed ⊎ ExtendsTo graph.old graph.new }
+    ensures carries { IsTrue graph.new.failed ⊎ CarriesAlong N.codes N.meaning graph.old graph.new }
     ensures stays { IsTrue graph.old.failed → graph.new ≡ graph.old }
     ensures failed { IsErrOf result Error.Failed ↔ IsTrue graph.old.failed }
     ensures fails { IsTrue graph.new.failed ↔ IsErrAnd result (λ e. (e ≡ Error.Failed) ⊎ IsShortage e) }
+    ensures left { IfErr result (λ e. IsTrue graph.new.failed
+        ⊎ BreaksOff (C.answers rule.now.condition) (C.refuses rule.now.condition)
+        (tree_of L.form rule.now.left) (tree_of L.form rule.now.right) (string_bytes rule.now.name) found.now graph.old graph.new e) }
     ensures err { IfErr result (λ e. (e ≡ Error.Failed) ⊎ IsShortage e
         ⊎ IsRefusedRewrite (C.refuses rule.now.condition) (tree_of L.form rule.now.right) e) }
 {
@@ -179,6 +193,11 @@ impl<L: Language, N: Analysis<L>, C: Cond<L, N>> RewriteT<L, N> for Rewrite<L, C
     ghost applies = { λ r found g h. LeavesApplied (C.answers r.condition) (tree_of L.form r.left) (tree_of L.form r.right) (string_bytes r.name) found g h };
 
     ghost refuses = { λ r e. IsRefusedRewrite (C.refuses r.condition) (tree_of L.form r.right) e };
+
+    // A search is refused over a failed graph, or if memory or slots ran out.
+    ghost gives_up = { λ r g h e. ⊥ };
+
+    ghost breaks_off = { λ r found g h e. BreaksOff (C.answers r.condition) (C.refuses r.condition) (tree_of L.form r.left) (tree_of L.form r.right) (string_bytes r.name) found g h e };
 
     ghost valid_stays = { λ r g h e v. valid-later L.form g h r e v };
 
@@ -208,9 +227,11 @@ impl<L: Language, N: Analysis<L>, C: Cond<L, N>> RewriteT<L, N> for Rewrite<L, C
         ensures full { IsErrOf result Error.OutOfSlots → LacksSlots (tree_of L.form self.now.left) graph.old graph.new }
 
         ensures extends { IsTrue graph.new.failed ⊎ ExtendsTo graph.old graph.new }
+        ensures lowers { IsTrue graph.new.failed ⊎ LowersData N.codes N.meaning graph.old graph.new }
         ensures stays { IsTrue graph.old.failed → graph.new ≡ graph.old }
         ensures failed { IsErrOf result Error.Failed ↔ IsTrue graph.old.failed }
         ensures fails { IsTrue graph.new.failed → IsErrAnd result (λ e. (e ≡ Error.Failed) ⊎ IsShortage e) }
+        ensures left { IfErr result (λ e. (e ≡ Error.Failed) ⊎ IsShortage e ⊎ ⊥) }
         ensures err { IfErr result (λ e. (e ≡ Error.Failed) ⊎ IsShortage e
             ⊎ IsRefusedRewrite (C.refuses self.now.condition) (tree_of L.form self.now.right) e) }
     {
@@ -230,9 +251,14 @@ impl<L: Language, N: Analysis<L>, C: Cond<L, N>> RewriteT<L, N> for Rewrite<L, C
         ensures origin { IsTrue graph.new.failed ⊎ AreFromRule (C.answers self.now.condition) (tree_of L.form self.now.left)
             (tree_of L.form self.now.right) (string_bytes self.now.name) found graph.old graph.new }
         ensures extends { IsTrue graph.new.failed ⊎ ExtendsTo graph.old graph.new }
+        ensures lowers { IsTrue graph.new.failed ⊎ LowersData N.codes N.meaning graph.old graph.new }
+        ensures carries { IsTrue graph.new.failed ⊎ CarriesAlong N.codes N.meaning graph.old graph.new }
         ensures stays { IsTrue graph.old.failed → graph.new ≡ graph.old }
         ensures failed { IsErrOf result Error.Failed ↔ IsTrue graph.old.failed }
         ensures fails { IsTrue graph.new.failed ↔ IsErrAnd result (λ e. (e ≡ Error.Failed) ⊎ IsShortage e) }
+        ensures left { IfErr result (λ e. IsTrue graph.new.failed
+            ⊎ BreaksOff (C.answers self.now.condition) (C.refuses self.now.condition) (tree_of L.form self.now.left)
+            (tree_of L.form self.now.right) (string_bytes self.now.name) found graph.old graph.new e) }
         ensures err { IfErr result (λ e. (e ≡ Error.Failed) ⊎ IsShortage e
             ⊎ IsRefusedRewrite (C.refuses self.now.condition) (tree_of L.form self.now.right) e) }
     {

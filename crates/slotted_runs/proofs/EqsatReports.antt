@@ -1,6 +1,7 @@
 -- Reports of runs without a runner, and what is left where a turn is refused.
-use Rattle.std.proofs.Common.{◌≡◌, ◌∙◌, ℕ, suc, ◌+◌, ◌-◌, [], ◌∷◌, ◌++◌, length, length-append, Option, Result, ap, sym, subst, inl, inr, arith}
-use Rattle.std.specs.Prelude.{IsTrue}
+use Rattle.std.proofs.Common.{◌≡◌, ◌∙◌, ℕ, suc, ◌+◌, ◌-◌, [], ◌∷◌, ◌++◌, length, length-append, Option, Result, Err, ap, sym, subst, inl, inr, arith}
+use Rattle.std.specs.Prelude.{IsErrAnd, IsTrue}
+use Rattle.slotted_slots.specs.Error.{IsShortage}
 use Rattle.slotted_slots.specs.declared.error.Error.{Error}
 use Rattle.slotted_operations.specs.Graph.{Graph}
 use Rattle.slotted_operations.specs.Reports.{live_classes}
@@ -39,24 +40,26 @@ module _ {H T K : Type 0} (tells : K → ℕ → K → Type 0) (applies : Graph 
         count = length_is;
       }
 
-  -- the last graph may fail
-  worse : (clock : ℕ → ℕ) (start : ℕ) {counted from total : ℕ} {s : Graph × H} (t u : Graph × H) → IsTrue u.0.failed → EqsatRefuses tells applies hooks iterations seconds clock start counted from s total t →
-      EqsatRefuses tells applies hooks iterations seconds clock start counted from s total u
-  worse clock start t u failed (eqsat_refused_now spoils) = eqsat_refused_now (inl failed)
-  worse clock start t u failed (eqsat_refused_later turn more) = eqsat_refused_later turn (worse clock start t u failed more)
+  module _ (refuses : Graph × H → ℕ → Graph × H → Error → Type 0) (room : (s t u : Graph × H) (n : ℕ) (e : Error) → IsShortage e → IsTrue u.0.failed → refuses s n t e → refuses s n u e) (e : Error) where
+    -- the last graph may fail
+    worse : (clock : ℕ → ℕ) (start : ℕ) {counted from total : ℕ} {s : Graph × H} (t u : Graph × H) → IsShortage e → IsTrue u.0.failed → EqsatRefuses tells applies hooks iterations seconds (λ v i x. refuses v i x e) clock start counted from s total t →
+        EqsatRefuses tells applies hooks iterations seconds (λ v i x. refuses v i x e) clock start counted from s total u
+    worse clock start t u short failed (eqsat_refused_now spoils) = eqsat_refused_now (room _ t u _ e short failed spoils)
+    worse clock start t u short failed (eqsat_refused_later turn more) = eqsat_refused_later turn (worse clock start t u short failed more)
 
-  pub refused-eqsat : {A : Type 0} (r : Result A Error) (s t : Graph × H) (k l m : K) (start : ℕ) → tells k start l → HasBroken tells applies hooks iterations seconds start s l t m → (h : Graph) → IsFailedBy r t.0 h →
-      HasRefusedEqsat tells applies hooks iterations seconds s k (h, t.1) m
-  refused-eqsat r s t k l m start first broken h by =
-      let all = start ∷ broken.readings in
-      let read = reads-itself all in
-      let breaks = subst (λ x. EqsatRefuses tells applies hooks iterations seconds (reading_in all) x 0 1 s broken.total t) (sym read.0) (broken.breaks (reading_in all) 1 read.1) in
-      record {
-        readings = all;
-        by_clock = (l, first, broken.told);
-        total = broken.total;
-        by_turns = elim (failed-or-same r t.0 h by) [
-          | inl short ↦ worse (reading_in all) (reading_in all 0) t (h, t.1) (ap (λ (x : Graph). x.failed) short.1) breaks
-          | inr same ↦ subst (λ x. EqsatRefuses tells applies hooks iterations seconds (reading_in all) (reading_in all 0) 0 1 s broken.total (x, t.1)) (sym same.1) breaks
-        ];
-      }
+    pub refused-eqsat : {A : Type 0} (r : Result A Error) → r ≡ Err e → (s t : Graph × H) (k l m : K) (start : ℕ) → tells k start l → HasBroken tells applies hooks iterations seconds refuses start s l t m e → (h : Graph) → IsFailedBy r t.0 h →
+        HasRefusedEqsat tells applies hooks iterations seconds refuses s k (h, t.1) m e
+    refused-eqsat {A} r was s t k l m start first broken h by =
+        let all = start ∷ broken.readings in
+        let read = reads-itself all in
+        let breaks = subst (λ x. EqsatRefuses tells applies hooks iterations seconds (λ v i x. refuses v i x e) (reading_in all) x 0 1 s broken.total t) (sym read.0) (broken.breaks (reading_in all) 1 read.1) in
+        record {
+          readings = all;
+          by_clock = (l, first, broken.told);
+          total = broken.total;
+          count = ap suc broken.count;
+          by_turns = elim (failed-or-same r t.0 h by) [
+            | inl short ↦ worse (reading_in all) (reading_in all 0) t (h, t.1) (subst (λ (q : Result A Error). IsErrAnd q IsShortage) was short.0) (ap (λ (x : Graph). x.failed) short.1) breaks
+            | inr same ↦ subst (λ x. EqsatRefuses tells applies hooks iterations seconds (λ v i y. refuses v i y e) (reading_in all) (reading_in all 0) 0 1 s broken.total (x, t.1)) (sym same.1) breaks
+          ];
+        }

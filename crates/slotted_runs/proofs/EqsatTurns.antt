@@ -1,13 +1,15 @@
 -- Turns without a runner, one after another.
-use Rattle.std.proofs.Common.{◌≡◌, ◌∙◌, ℕ, suc, ◌+◌, ◌-◌, ◌*◌, ◌/◌, ◌<◌, ◌≤◌, [], ◌∷◌, ◌++◌, length, Option, Some, None, Bool, false, ap, refl, sym, subst, arith}
-use Rattle.std.specs.Prelude.{◌⊎◌, IsTrue, cond}
+use Rattle.std.proofs.Common.{◌≡◌, ◌∙◌, ℕ, suc, ◌+◌, ◌-◌, ◌*◌, ◌/◌, ◌<◌, ◌≤◌, [], ◌∷◌, ◌++◌, length, length-append, Option, Some, None, Bool, false, ap, refl, sym, subst, arith}
+use Rattle.std.specs.Prelude.{cond}
+use Rattle.slotted_slots.specs.declared.error.Error.{Error}
+use Rattle.slotted_theory.specs.Decided.{numbers_eq}
 use Rattle.std.proofs.lemmas.Bool.{lt-ltb}
 use Rattle.slotted_operations.specs.Graph.{Graph}
 use Rattle.slotted_graph.specs.Extension.{ExtendsTo}
 use Rattle.slotted_graph.proofs.Extending.{extends-itself, extends-then}
 use Rattle.slotted_model_rules.specs.Runners.{EqsatRuns, Stop, after_time, eqsat_goes_on, eqsat_stop, eqsat_stops, second, time_limit}
 use Rattle.slotted_model_rules.proofs.Rules.Stopping.{eqsat-first}
-use Rattle.slotted_runs.specs.Eqsat.{EqsatGoOn, GivesEqsatReason, HasBroken, HasCounted, HasEnded, IsEqsatTurn, eqsat_refused_later, eqsat_refused_now}
+use Rattle.slotted_runs.specs.Eqsat.{EqsatGoOn, EqsatRefuses, GivesEqsatReason, HasBroken, HasCounted, HasEnded, IsEqsatTurn, eqsat_refused_later, eqsat_refused_now, none_counted, one_counted}
 use Rattle.slotted_runs.specs.Loops.{HasCalled}
 use Rattle.slotted_runs.specs.Turning.{TellsAll, progress_of, reading_in}
 use Rattle.slotted_runs.proofs.Readings.{more-readings, reads-back, reads-front, reads-itself, tells-then}
@@ -58,6 +60,17 @@ module _ {H T K : Type 0} (tells : K → ℕ → K → Type 0) (applies : Graph 
     };
   }
 
+  -- each run from where they lead is one from where they begin
+  goes-runs : (clock : ℕ → ℕ) (start : ℕ) {k : ℕ} {s : Graph × H} {counted j total last : ℕ} {t u : Graph × H} {reason : Stop T} → EqsatGoOn tells applies hooks iterations seconds clock start k s counted j t →
+      EqsatRuns applies hooks (λ x. progress_of x.0.image) iterations seconds clock start counted j t total last u reason → EqsatRuns applies hooks (λ x. progress_of x.0.image) iterations seconds clock start 0 k s total last u reason
+  goes-runs clock start none_counted run = run
+  goes-runs clock start (one_counted so_far turn) run = goes-runs clock start so_far (eqsat_goes_on turn run)
+
+  goes-refuses : (clock : ℕ → ℕ) (start : ℕ) (spoils : Graph × H → ℕ → Graph × H → Type 0) {k : ℕ} {s : Graph × H} {counted j total : ℕ} {t u : Graph × H} → EqsatGoOn tells applies hooks iterations seconds clock start k s counted j t →
+      EqsatRefuses tells applies hooks iterations seconds spoils clock start counted j t total u → EqsatRefuses tells applies hooks iterations seconds spoils clock start 0 k s total u
+  goes-refuses clock start spoils none_counted refused = refused
+  goes-refuses clock start spoils (one_counted so_far turn) refused = goes-refuses clock start spoils so_far (eqsat_refused_later turn refused)
+
   -- none yet
   pub counted-none : (start : ℕ) (s : Graph × H) (k : K) → s.0.failed ≡ false → HasCounted tells applies hooks iterations seconds start s k 0 s k
   counted-none start s k well = record {
@@ -65,10 +78,11 @@ module _ {H T K : Type 0} (tells : K → ℕ → K → Type 0) (applies : Graph 
     told = refl;
     leads = λ clock n r.
         let e : n + 0 ≡ n = omega arith in
-        subst (λ next. EqsatGoOn tells applies hooks iterations seconds clock start n s 0 next s) (sym e) (record { runs = λ run. run; refuses = λ run. run });
+        subst (λ next. EqsatGoOn tells applies hooks iterations seconds clock start n s 0 next s) (sym e) none_counted;
     well = well;
     extends = extends-itself s.0;
     fits = omega arith;
+    count = refl;
   }
 
   module _ (start : ℕ) (s : Graph × H) (k : K) (counted : ℕ) (t : Graph × H) (l : K) (so_far : HasCounted tells applies hooks iterations seconds start s k counted t l) where
@@ -85,10 +99,11 @@ module _ {H T K : Type 0} (tells : K → ℕ → K → Type 0) (applies : Graph 
             let led = so_far.leads clock n (reads-front clock n so_far.readings turn.readings reads) in
             let one = turn.turn clock j (reads-back clock n so_far.readings turn.readings reads) in
             subst (λ next. EqsatGoOn tells applies hooks iterations seconds clock start n s (suc counted) next u) (sym (more-readings n so_far.readings turn.readings))
-            (record { runs = λ run. led.runs (eqsat_goes_on one run); refuses = λ run. led.refuses (eqsat_refused_later one run) });
+            (one_counted led one);
         well = well;
         extends = extends-then s.0 t.0 u.0 so_far.extends more;
         fits = omega (arith, within);
+        count = omega (arith, so_far.count, once, length-append so_far.readings turn.readings);
       },
     )
       where
@@ -96,6 +111,16 @@ module _ {H T K : Type 0} (tells : K → ℕ → K → Type 0) (applies : Graph 
         within =
             let one = turn.turn (reading_in turn.readings) 0 (reads-itself turn.readings) in
             ((eqsat-first T iterations seconds one.answer _ counted _).1.0 one.stops).2
+
+        -- the clock is read once
+        once : length turn.readings ≡ 1
+        once =
+            let one = turn.turn (reading_in turn.readings) 0 (reads-itself turn.readings) in
+            let first = (eqsat-first T iterations seconds one.answer _ counted _).1.0 one.stops in
+            let reads : 0 + length turn.readings ≡ after_time iterations one.answer (numbers_eq (progress_of t.0.image) (progress_of one.applied.0.image)) counted 0 = one.reads in
+            let going : after_time iterations one.answer (numbers_eq (progress_of t.0.image) (progress_of one.applied.0.image)) counted 0 ≡ 1 =
+            (λ i. after_time iterations (first.0 i) (first.1 i) counted 0) ∙ (λ i. cond (lt-ltb counted iterations first.2 i) 1 0) in
+            omega (arith, reads, going)
 
     -- one that stops
     pub counted-last : (u : Graph × H) (m : K) (reason : Stop T) → IsEqsatTurn tells applies hooks iterations seconds start counted t l u m (Some reason) → HasEnded tells applies hooks iterations seconds start s k u m counted reason
@@ -105,14 +130,15 @@ module _ {H T K : Type 0} (tells : K → ℕ → K → Type 0) (applies : Graph 
       ends = λ clock n reads.
           let led = so_far.leads clock n (reads-front clock n so_far.readings turn.readings reads) in
           let one = turn.turn clock (n + length so_far.readings) (reads-back clock n so_far.readings turn.readings reads) in
-          subst (λ next. EqsatRuns applies hooks (λ x. progress_of x.0.image) iterations seconds clock start 0 n s counted next u reason) (sym (more-readings n so_far.readings turn.readings)) (led.runs (eqsat_stops one));
+          subst (λ next. EqsatRuns applies hooks (λ x. progress_of x.0.image) iterations seconds clock start 0 n s counted next u reason) (sym (more-readings n so_far.readings turn.readings)) (goes-runs clock start led (eqsat_stops one));
     }
 
     -- or one that is refused
-    pub counted-broken : (u : Graph × H) (m : K) → m ≡ l → IsTrue u.0.failed ⊎ ExtendsTo t.0 u.0 → HasBroken tells applies hooks iterations seconds start s k u m
-    counted-broken u m same spoils = record {
+    pub counted-broken : (refuses : Graph × H → ℕ → Graph × H → Error → Type 0) (e : Error) (u : Graph × H) (m : K) → m ≡ l → refuses t counted u e → HasBroken tells applies hooks iterations seconds refuses start s k u m e
+    counted-broken refuses e u m same spoils = record {
       readings = so_far.readings;
       told = subst (TellsAll tells k so_far.readings) (sym same) so_far.told;
       total = counted;
-      breaks = λ clock n reads. (so_far.leads clock n reads).refuses (eqsat_refused_now spoils);
+      count = so_far.count;
+      breaks = λ clock n reads. goes-refuses clock start (λ v i x. refuses v i x e) (so_far.leads clock n reads) (eqsat_refused_now spoils);
     }

@@ -1,6 +1,7 @@
 -- Runners that have stopped, or that a turn was refused to.
-use Rattle.std.proofs.Common.{◌≡◌, ◌∙◌, ℕ, ◌+◌, ◌*◌, [], ◌++◌, length, Option, Some, None, ap, refl, sym, subst, arith}
+use Rattle.std.proofs.Common.{◌≡◌, ◌∙◌, ℕ, ◌+◌, ◌*◌, [], ◌++◌, length, length-append, Option, Some, None, ap, refl, sym, subst, arith}
 use Rattle.std.specs.Prelude.{false}
+use Rattle.slotted_slots.specs.declared.error.Error.{Error}
 use Rattle.slotted_operations.specs.Graph.{Graph}
 use Rattle.slotted_graph.specs.Extension.{ExtendsTo}
 use Rattle.slotted_graph.proofs.Extending.{extends-itself}
@@ -10,7 +11,7 @@ use Rattle.slotted_model_rules.proofs.Rules.Turns.{read-twice}
 use Rattle.slotted_runs.specs.Loops.{HasRefused, HasStopped, HasTaken, IsBegun, Leads}
 use Rattle.slotted_runs.specs.Runs.{CountsReadings, HasRefusedTurn}
 use Rattle.slotted_runs.specs.Seen.{Parts, seen}
-use Rattle.slotted_runs.specs.Turning.{IsStart, ReadsFrom, Spoils, reading_in}
+use Rattle.slotted_runs.specs.Turning.{IsStart, ReadsFrom, reading_in}
 use Rattle.slotted_runs.proofs.Readings.{more-readings, reads-back, reads-front, reads-itself, tells-then}
 
 abbrev record_of : {D T H K : Type 0} → Parts D T H K → ℕ → Stop T → Runner (Graph × H) T D
@@ -86,8 +87,8 @@ module _ {H T D K : Type 0} (tells : K → ℕ → K → Type 0) (applies : Grap
         }
 
     -- or a turn is refused
-    pub refused-now : HasRefused tells applies hooks m b.limits start b q → HasRefusedTurn tells applies hooks m p q
-    refused-now refused =
+    pub refused-now : (refuses : Graph × H → ℕ → Graph × H → Error → Type 0) (e : Error) → HasRefused tells applies hooks m b.limits start refuses b q e → HasRefusedTurn tells applies hooks m refuses p q e
+    refused-now refuses e refused =
         let all = begun.readings ++ refused.readings in
         let read = reads-itself all in
         let zero : 0 + length begun.readings ≡ length begun.readings = omega arith in
@@ -98,8 +99,12 @@ module _ {H T D K : Type 0} (tells : K → ℕ → K → Type 0) (applies : Grap
           start = start;
           first = length begun.readings;
           starts = begun.starts (reading_in all) (reads-front (reading_in all) 0 begun.readings refused.readings read);
-          by_turns = subst (λ (x : Parts D T H K). RunnerRefuses applies hooks Spoils m x.limits (reading_in all) start x.iterations (length begun.readings) (x.graph, x.hook) q.iterations (q.graph, q.hook)) begun.rest
+          by_turns = subst (λ (x : Parts D T H K). RunnerRefuses applies hooks (λ s i t. refuses s i t e) m x.limits (reading_in all) start x.iterations (length begun.readings) (x.graph, x.hook) q.iterations (q.graph, q.hook)) begun.rest
               (refused.refused (reading_in all) (length begun.readings) back);
+          count =
+              let same : length b.iterations ≡ length p.iterations = ap (λ (x : Parts D T H K). length x.iterations) begun.rest in
+              let least = refused.count in
+              omega (arith, same, least, length-append begun.readings refused.readings);
           had_not_stopped = had_not;
           rest = λ i. record q {
             roots = (ap (λ (x : Parts D T H K). x.roots) refused.rest ∙ ap (λ (x : Parts D T H K). x.roots) begun.rest) i;

@@ -1,6 +1,6 @@
 -- What a runner is once one more turn is stored.
 use Rattle.std.proofs.Common.{◌≡◌, ◌∙◌, ℕ, suc, ◌+◌, ◌-◌, ◌≤◌, List, [], ◌∷◌, ◌++◌, length, length-append, map, Option, Some, None, Bool, true, false, Result, Ok, Err, ap, refl, sym, subst, arith}
-use Rattle.std.specs.Prelude.{IsSome, OnErr, OnOk, is_some, not, option_map}
+use Rattle.std.specs.Prelude.{IfErr, IsSome, OnErr, OnOk, is_some, not, option_map}
 use Rattle.std.proofs.lemmas.Bool.{false≢true}
 use Rattle.std.proofs.lemmas.List.{map-append, length-map}
 use Rattle.slotted_operations.specs.Graph.{Graph}
@@ -15,6 +15,10 @@ use Rattle.slotted_runs.proofs.Turns.{taken-more, within}
 pub on-err : {A E P : Type 0} (r : Result A E) → P → OnErr r P
 on-err (Ok x) p = tt
 on-err (Err e) p = p
+
+pub err-so : {A E : Type 0} (r : Result A E) {P Q : E → Type 0} → IfErr r P → ((e : E) → P e → Q e) → IfErr r Q
+err-so (Ok x) p f = tt
+err-so (Err e) p f = f e p
 
 pub on-ok-two : {A E P Q R : Type 0} (r : Result A E) → OnOk r P → OnOk r Q → (P → Q → R) → OnOk r R
 on-ok-two (Ok x) p q f = f p q

@@ -1,14 +1,15 @@
 -- Turns, and turns one after another.
-use Rattle.std.proofs.Common.{◌≡◌, ◌∙◌, ℕ, ◌+◌, ◌-◌, List, [], ◌∷◌, ◌++◌, length, Option, Some, None, Bool, ap, refl, sym, subst, arith}
-use Rattle.std.specs.Prelude.{◌≤◌, ◌⊎◌, IsTrue, false}
+use Rattle.std.proofs.Common.{◌≡◌, ◌∙◌, ℕ, suc, ◌+◌, ◌-◌, ◌*◌, List, [], ◌∷◌, ◌++◌, length, length-append, Option, Some, None, Bool, ap, refl, sym, subst, arith}
+use Rattle.std.specs.Prelude.{◌≤◌, false}
+use Rattle.slotted_slots.specs.declared.error.Error.{Error}
 use Rattle.slotted_operations.specs.Graph.{Graph}
 use Rattle.slotted_graph.specs.Extension.{ExtendsTo}
 use Rattle.slotted_graph.proofs.Extending.{extends-itself, extends-then}
-use Rattle.slotted_model_rules.specs.Runners.{Iteration, Limits, Measures, RunnerRefuses, RunnerTurn, Stop, after_check, goes_on, refused_later, refused_now, runner_stop, stops_now}
+use Rattle.slotted_model_rules.specs.Runners.{Iteration, Limits, Measures, RunnerRefuses, RunnerRuns, RunnerTurn, Stop, after_check, goes_on, refused_later, refused_now, runner_stop, stops_now}
 use Rattle.slotted_model_rules.proofs.Rules.Stopping.{runner-first}
-use Rattle.slotted_runs.specs.Loops.{GivesReason, GoOn, HasCalled, HasRefused, HasTaken, IsBegun, IsTurn, Leads}
+use Rattle.slotted_runs.specs.Loops.{GivesReason, GoOn, HasCalled, HasRefused, HasTaken, IsBegun, IsTurn, Leads, no_turns, one_more}
 use Rattle.slotted_runs.specs.Seen.{Parts}
-use Rattle.slotted_runs.specs.Turning.{IsStart, ReadsFrom, Spoils, TellsAll, measures, reading_in}
+use Rattle.slotted_runs.specs.Turning.{IsStart, ReadsFrom, TellsAll, measures, reading_in}
 use Rattle.slotted_runs.proofs.Readings.{more-readings, reads-back, reads-front, reads-itself, tells-one, tells-then}
 
 abbrev record_of : {D : Type 0} → D → ℕ → ℕ → Iteration D
@@ -39,6 +40,11 @@ module _ {H T D K : Type 0} (tells : K → ℕ → K → Type 0) (applies : Grap
       kept : (r : ℕ) → end ≡ r → record_of d nodes end ≡ record_of (made t.0 stored) (length t.0.filed) r
       kept r e = λ i. record_of (is i) (count i) (e i)
 
+-- where the cause is asked for the clock is read at most once
+pub read-few : {T : Type 0} (o : Option T) (n : ℕ) → 0 + n ≡ after_check o 0 → n ≤ 1
+read-few None n reads = omega (arith, reads)
+read-few (Some x) n reads = omega (arith, reads)
+
 -- the reading before the first turn
 module _ {D T H K : Type 0} (tells : K → ℕ → K → Type 0) (p : Parts D T H K) where
   pub begun-before : (start : ℕ) → p.start ≡ Some start → IsBegun tells p p start
@@ -62,13 +68,21 @@ module _ {H T D K : Type 0} (tells : K → ℕ → K → Type 0) (applies : Grap
   abbrev Goes : (ℕ → ℕ) → List (Iteration D) → ℕ → Graph × H → List (Iteration D) → ℕ → Graph × H → Type 0
   Goes clock stored k s more next t = GoOn tells applies hooks m limits start clock stored k s more next t
 
+  -- each run from where they lead is one from where they begin
+  goes-runs : (clock : ℕ → ℕ) {stored more all : List (Iteration D)} {k j last : ℕ} {s t h : Graph × H} {reason : Stop T} → Goes clock stored k s more j t → RunnerRuns applies hooks m limits clock start more j t all last h reason →
+      RunnerRuns applies hooks m limits clock start stored k s all last h reason
+  goes-runs clock no_turns run = run
+  goes-runs clock (one_more so_far turn) run = goes-runs clock so_far (goes_on turn run)
+
+  goes-refuses : (clock : ℕ → ℕ) (spoils : Graph × H → ℕ → Graph × H → Type 0) {stored more all : List (Iteration D)} {k j : ℕ} {s t h : Graph × H} → Goes clock stored k s more j t → RunnerRefuses applies hooks spoils m limits clock start more j t all h →
+      RunnerRefuses applies hooks spoils m limits clock start stored k s all h
+  goes-refuses clock spoils no_turns refused = refused
+  goes-refuses clock spoils (one_more so_far turn) refused = goes-refuses clock spoils so_far (refused_later turn refused)
+
   leads-more : (clock : ℕ → ℕ) (stored more : List (Iteration D)) (k j next : ℕ) (s t u : Graph × H) (kept : Iteration D) (stop : Option (Stop T)) →
       Goes clock stored k s more j t → RunnerTurn applies hooks m limits clock start (length more) j t u stop kept next → Leads tells applies hooks m limits start clock stored k s (more ++ kept ∷ []) next u stop
-  leads-more clock stored more k j next s t u kept (Some reason) so_far turn = so_far.runs (stops_now turn)
-  leads-more clock stored more k j next s t u kept None so_far turn = record {
-    runs = λ r. so_far.runs (goes_on turn r);
-    refuses = λ r. so_far.refuses (refused_later turn r);
-  }
+  leads-more clock stored more k j next s t u kept (Some reason) so_far turn = goes-runs clock so_far (stops_now turn)
+  leads-more clock stored more k j next s t u kept None so_far turn = one_more so_far turn
 
   abbrev Lead : (ℕ → ℕ) → Parts D T H K → ℕ → List (Iteration D) → ℕ → Graph × H → Option (Stop T) → Type 0
   Lead clock p n more next t stop = Leads tells applies hooks m limits start clock p.iterations n (p.graph, p.hook) more next t stop
@@ -81,7 +95,8 @@ module _ {H T D K : Type 0} (tells : K → ℕ → K → Type 0) (applies : Grap
     leads = λ clock n r.
         let e : n + 0 ≡ n = omega arith in
         subst (λ next. Lead clock p n p.iterations next (p.graph, p.hook) p.stop_reason) (sym e)
-        (subst (Lead clock p n p.iterations n (p.graph, p.hook)) (sym on) (record { runs = λ run. run; refuses = λ run. run }));
+        (subst (Lead clock p n p.iterations n (p.graph, p.hook)) (sym on) no_turns);
+    count = λ none. omega arith;
     rest = refl;
     well = well;
     extends = extends-itself p.graph;
@@ -94,9 +109,41 @@ module _ {H T D K : Type 0} (tells : K → ℕ → K → Type 0) (applies : Grap
       let first = (runner-first T limits one.answer n (m.nodes t) (reading_in turn.readings 0 - start) _).1.0 one.stops in
       first.1
 
+  -- so often the clock is read in a turn
+  pub read-at-most : (n : ℕ) (s t : Graph × H) (k l : K) (stop : Option (Stop T)) (kept : Iteration D) → (turn : IsTurn tells applies hooks m limits start n s k t l stop kept) → length turn.readings ≤ 2
+  read-at-most n s t k l stop kept turn =
+      let one = turn.turn (reading_in turn.readings) 0 (reads-itself turn.readings) in
+      let few = checked one.answer in
+      let reads : 0 + length turn.readings ≡ suc (after_check one.answer 0) = one.reads in
+      omega arith
+    where
+      checked : (o : Option T) → after_check o 0 ≤ 1
+      checked None = omega arith
+      checked (Some x) = omega arith
+
+  read-in-one : (n : ℕ) (s t : Graph × H) (k l : K) (kept : Iteration D) → (turn : IsTurn tells applies hooks m limits start n s k t l None kept) → length turn.readings ≡ 2
+  read-in-one n s t k l kept turn =
+      let one = turn.turn (reading_in turn.readings) 0 (reads-itself turn.readings) in
+      let first = (runner-first T limits one.answer n (m.nodes t) (reading_in turn.readings 0 - start) _).1.0 one.stops in
+      let two : suc (after_check one.answer 0) ≡ 2 = ap (λ o. suc (after_check o 0)) first.0 in
+      let reads : 0 + length turn.readings ≡ suc (after_check one.answer 0) = one.reads in
+      omega arith
+
   module _ (p q r : Parts D T H K) (taken : HasTaken tells applies hooks m limits start p q) (on : q.stop_reason ≡ None) where
     went : (clock : ℕ → ℕ) (n : ℕ) → ReadsFrom clock n taken.readings → Goes clock p.iterations n (p.graph, p.hook) q.iterations (n + length taken.readings) (q.graph, q.hook)
     went clock n reads = subst (Lead clock p n q.iterations (n + length taken.readings) (q.graph, q.hook)) on (taken.leads clock n reads)
+
+    -- twice in each turn that goes on
+    counted-on : (stop : Option (Stop T)) (kept : Iteration D) (turn : IsTurn tells applies hooks m limits start (length q.iterations) (q.graph, q.hook) q.clock (r.graph, r.hook) r.clock stop kept) → stop ≡ None →
+        length (taken.readings ++ turn.readings) + 2 * length p.iterations ≡ 2 * length (q.iterations ++ kept ∷ [])
+    counted-on None kept turn none =
+        let two = read-in-one (length q.iterations) (q.graph, q.hook) (r.graph, r.hook) q.clock r.clock kept turn in
+        let before = taken.count on in
+        omega (arith, two, before, length-append taken.readings turn.readings, length-append q.iterations (kept ∷ []))
+    counted-on (Some reason) kept turn none = absurd (none-some none)
+      where
+        none-some : Some reason ≡ None → ⊥
+        none-some e = absurd (cc)
 
     pub taken-more : (stop : Option (Stop T)) (kept : Iteration D) → IsTurn tells applies hooks m limits start (length q.iterations) (q.graph, q.hook) q.clock (r.graph, r.hook) r.clock stop kept →
         r ≡ record q { graph = r.graph; hook = r.hook; iterations = q.iterations ++ kept ∷ []; stop_reason = stop; clock = r.clock } → r.graph.failed ≡ false → ExtendsTo q.graph r.graph →
@@ -111,6 +158,8 @@ module _ {H T D K : Type 0} (tells : K → ℕ → K → Type 0) (applies : Grap
           subst (λ (x : Parts D T H K). Lead clock p n x.iterations (n + length (taken.readings ++ turn.readings)) (r.graph, r.hook) x.stop_reason) (sym is)
           (subst (λ next. Lead clock p n (q.iterations ++ kept ∷ []) next (r.graph, r.hook) stop) (sym (more-readings n taken.readings turn.readings))
           (leads-more clock p.iterations q.iterations n j (j + length turn.readings) (p.graph, p.hook) (q.graph, q.hook) (r.graph, r.hook) kept stop so_far one));
+      count = λ none.
+          counted-on stop kept turn (ap (λ (x : Parts D T H K). x.stop_reason) (sym is) ∙ none) ∙ ap (λ (x : Parts D T H K). 2 * length x.iterations) (sym is);
       rest = λ i. record r {
         roots = (ap (λ (x : Parts D T H K). x.roots) is ∙ ap (λ (x : Parts D T H K). x.roots) taken.rest) i;
         limits = (ap (λ (x : Parts D T H K). x.limits) is ∙ ap (λ (x : Parts D T H K). x.limits) taken.rest) i;
@@ -121,14 +170,18 @@ module _ {H T D K : Type 0} (tells : K → ℕ → K → Type 0) (applies : Grap
     }
 
     -- or one turn is refused
-    pub refused-more : p.stop_reason ≡ None → (readings : List ℕ) → TellsAll tells q.clock readings r.clock → IsTrue r.graph.failed ⊎ ExtendsTo q.graph r.graph →
-        r ≡ record q { graph = r.graph; hook = r.hook; clock = r.clock } → HasRefused tells applies hooks m limits start p r
-    refused-more begins readings told spoils is = record {
+    pub refused-more : (refuses : Graph × H → ℕ → Graph × H → Error → Type 0) (e : Error) → p.stop_reason ≡ None → (readings : List ℕ) → TellsAll tells q.clock readings r.clock → length readings ≤ 2 →
+        refuses (q.graph, q.hook) (length q.iterations) (r.graph, r.hook) e → r ≡ record q { graph = r.graph; hook = r.hook; clock = r.clock } → HasRefused tells applies hooks m limits start refuses p r e
+    refused-more refuses e begins readings told few spoils is = record {
       readings = taken.readings ++ readings;
       told = tells-then tells taken.readings readings p.clock q.clock r.clock taken.told told;
       refused = λ clock n reads.
-          subst (λ (x : Parts D T H K). RunnerRefuses applies hooks Spoils m limits clock start p.iterations n (p.graph, p.hook) x.iterations (r.graph, r.hook)) (sym is)
-          ((went clock n (reads-front clock n taken.readings readings reads)).refuses (refused_now spoils));
+          subst (λ (x : Parts D T H K). RunnerRefuses applies hooks (λ s i t. refuses s i t e) m limits clock start p.iterations n (p.graph, p.hook) x.iterations (r.graph, r.hook)) (sym is)
+          (goes-refuses clock (λ s i t. refuses s i t e) (went clock n (reads-front clock n taken.readings readings reads)) (refused_now spoils));
+      count =
+          let before = taken.count on in
+          let same : length r.iterations ≡ length q.iterations = ap (λ (x : Parts D T H K). length x.iterations) is in
+          omega (arith, few, before, same, length-append taken.readings readings);
       rest = λ i. record r {
         roots = (ap (λ (x : Parts D T H K). x.roots) is ∙ ap (λ (x : Parts D T H K). x.roots) taken.rest) i;
         limits = (ap (λ (x : Parts D T H K). x.limits) is ∙ ap (λ (x : Parts D T H K). x.limits) taken.rest) i;

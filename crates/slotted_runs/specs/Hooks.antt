@@ -1,5 +1,6 @@
 -- Why hooks end runs.
 --     StopsRun leaves refuses s    a stop leaves what it may for its reason, and a refusal is one of those it may answer, or a shortage
+--     LeavesRefused P s            a refusal that is no shortage leaves what P says
 --     IsHookRefusal P s            a refusal of which P holds
 use Rattle.std.specs.Prelude.{◌⊎◌, Option, Some}
 use Rattle.slotted_slots.specs.declared.error.Error.{Error}
@@ -14,3 +15,7 @@ StopsRun leaves refuses (Refused e) = IsShortage e ⊎ refuses e
 abbrev pub IsHookRefusal : {T : Type 0} → (Error → Type 0) → HookStop T → Type 0
 IsHookRefusal P (Stop t) = ⊥
 IsHookRefusal P (Refused e) = P e
+
+abbrev pub LeavesRefused : {T : Type 0} → (Error → Type 0) → HookStop T → Type 0
+LeavesRefused P (Stop t) = Unit {0}
+LeavesRefused P (Refused e) = IsShortage e ⊎ P e

@@ -1,19 +1,19 @@
 -- What loops of turns keep.
 --     HasCalled       the rules were applied once, edits were made, and then the hook was called
 --     GivesReason     why a turn stops the run, with what the clock was read for it
---     ReadsClock tells k l    the clock k was read, maybe more than once or not at all, and is l
+--     ReadsClock tells k l    the clock k was read at most once, and is l
 --     IsTurn          a turn, whatever was read before it
 --     IsBegun         the reading before the first turn is there
 --     turns_left      the most turns that may come
 --     HasTurned p q   from p to q a runner takes a turn
---     GoOn            turns that go on: each run from where they lead is one from where they begin
+--     GoOn            turns that go on, one after another
 --     Leads           turns that go on, or of which the last one stops the run
 --     HasTaken p q    from p to q a runner took some turns
---     HasRefused p q  from p to q it took some, and one was refused
+--     HasRefused refuses p q e    from p to q it took some, and one was refused
 --     HasStopped p q  the runner has stopped, or it had before
 --     IsRefusedWithin a turn was refused, or a report
 --     IsReportOf      the report of a runner that has stopped
-use Rattle.std.specs.Prelude.{◌≡◌, ℕ, suc, ◌+◌, ◌-◌, List, length, Option, Some, None, Bool, false, option_map}
+use Rattle.std.specs.Prelude.{◌≡◌, ℕ, suc, ◌+◌, ◌-◌, ◌*◌, ◌≤◌, ◌++◌, List, [], ◌∷◌, length, Option, Some, None, Bool, false, option_map}
 use Rattle.slotted_theory.specs.Decided.{numbers_eq}
 use Rattle.slotted_operations.specs.Graph.{Graph}
 use Rattle.slotted_graph.specs.Extension.{ExtendsTo}
@@ -24,7 +24,7 @@ use Rattle.slotted_runs.specs.Runs.{HasRefusedTurn, HasRun}
 use Rattle.slotted_runs.specs.declared.report.Report.{Report}
 use Rattle.slotted_runs.specs.Seen.{Parts, iteration_of, seen, stop_of}
 use Rattle.slotted_runs.specs.declared.turning.Turn.{Turn}
-use Rattle.slotted_runs.specs.Turning.{IsReportClone, IsStart, ReadsFrom, Spoils, TellsAll, progress_of}
+use Rattle.slotted_runs.specs.Turning.{IsReportClone, IsStart, ReadsFrom, TellsAll, progress_of}
 
 pub record HasCalled {H T : Type 0} (applies : Graph × H → Graph × H → Type 0) (hooks : Graph × H → ℕ → Graph × H → Option T → Type 0) (s : Graph × H) (n : ℕ) (t : Graph × H) (same : Bool) (stop : Option T) : Type 0 where
   pub applied : Graph × H
@@ -41,6 +41,7 @@ pub record GivesReason {K T : Type 0} (tells : K → ℕ → K → Type 0) (limi
 pub record ReadsClock {K : Type 0} (tells : K → ℕ → K → Type 0) (k l : K) : Type 0 where
   pub readings : List ℕ
   pub told : TellsAll tells k readings l
+  pub few : length readings ≤ 1
 
 pub record IsBegun {D T H K : Type 0} (tells : K → ℕ → K → Type 0) (p q : Parts D T H K) (start : ℕ) : Type 0 where
   pub readings : List ℕ
@@ -59,9 +60,10 @@ module _ {H T D K : Type 0} (tells : K → ℕ → K → Type 0) (applies : Grap
     pub told : TellsAll tells k readings l
     pub turn : (clock : ℕ → ℕ) (n : ℕ) → ReadsFrom clock n readings → RunnerTurn applies hooks m limits clock start stored n s t stop kept (n + length readings)
 
-  pub record GoOn (clock : ℕ → ℕ) (stored : List (Iteration D)) (k : ℕ) (s : Graph × H) (more : List (Iteration D)) (next : ℕ) (t : Graph × H) : Type 0 where
-    pub runs : {all : List (Iteration D)} {last : ℕ} {h : Graph × H} {reason : Stop T} → RunnerRuns applies hooks m limits clock start more next t all last h reason → RunnerRuns applies hooks m limits clock start stored k s all last h reason
-    pub refuses : {all : List (Iteration D)} {h : Graph × H} → RunnerRefuses applies hooks Spoils m limits clock start more next t all h → RunnerRefuses applies hooks Spoils m limits clock start stored k s all h
+  pub data GoOn (clock : ℕ → ℕ) : List (Iteration D) → ℕ → Graph × H → List (Iteration D) → ℕ → Graph × H → Type 0 where
+    no_turns : {stored : List (Iteration D)} {k : ℕ} {s : Graph × H} → GoOn clock stored k s stored k s
+    one_more : {stored more : List (Iteration D)} {k j next : ℕ} {s t u : Graph × H} {kept : Iteration D} → GoOn clock stored k s more j t → RunnerTurn applies hooks m limits clock start (length more) j t u None kept next →
+        GoOn clock stored k s (more ++ kept ∷ []) next u
 
   abbrev pub Leads : (ℕ → ℕ) → List (Iteration D) → ℕ → Graph × H → List (Iteration D) → ℕ → Graph × H → Option (Stop T) → Type 0
   Leads clock stored k s more next t None = GoOn clock stored k s more next t
@@ -71,14 +73,16 @@ module _ {H T D K : Type 0} (tells : K → ℕ → K → Type 0) (applies : Grap
     pub readings : List ℕ
     pub told : TellsAll tells p.clock readings q.clock
     pub leads : (clock : ℕ → ℕ) (n : ℕ) → ReadsFrom clock n readings → Leads clock p.iterations n (p.graph, p.hook) q.iterations (n + length readings) (q.graph, q.hook) q.stop_reason
+    pub count : q.stop_reason ≡ None → length readings + 2 * length p.iterations ≡ 2 * length q.iterations
     pub rest : q ≡ record p { graph = q.graph; hook = q.hook; iterations = q.iterations; stop_reason = q.stop_reason; clock = q.clock }
     pub well : q.graph.failed ≡ false
     pub extends : ExtendsTo p.graph q.graph
 
-  pub record HasRefused (p q : Parts D T H K) : Type 0 where
+  pub record HasRefused (refuses : Graph × H → ℕ → Graph × H → Error → Type 0) (p q : Parts D T H K) (e : Error) : Type 0 where
     pub readings : List ℕ
     pub told : TellsAll tells p.clock readings q.clock
-    pub refused : (clock : ℕ → ℕ) (n : ℕ) → ReadsFrom clock n readings → RunnerRefuses applies hooks Spoils m limits clock start p.iterations n (p.graph, p.hook) q.iterations (q.graph, q.hook)
+    pub refused : (clock : ℕ → ℕ) (n : ℕ) → ReadsFrom clock n readings → RunnerRefuses applies hooks (λ s n t. refuses s n t e) m limits clock start p.iterations n (p.graph, p.hook) q.iterations (q.graph, q.hook)
+    pub count : length readings + 2 * length p.iterations ≤ 2 * length q.iterations + 2
     pub rest : q ≡ record p { graph = q.graph; hook = q.hook; iterations = q.iterations; clock = q.clock }
 
 -- from p to q the runner takes a turn, where so many turns are stored
@@ -95,9 +99,9 @@ pub record HasStopped {H T D K : Type 0} (tells : K → ℕ → K → Type 0) (a
   pub extends : ExtendsTo p.graph q.graph
 
 -- a turn was refused, or the runner has stopped and there was no memory for the report
-pub data IsRefusedWithin {H T D K : Type 0} (tells : K → ℕ → K → Type 0) (applies : Graph × H → Graph × H → Type 0) (hooks : Graph × H → ℕ → Graph × H → Option T → Type 0) (m : Measures (Graph × H) D) (p q : Parts D T H K) (e : Error) : Type 0 where
-  turn_refused_within : HasRefusedTurn tells applies hooks m p q → IsRefusedWithin tells applies hooks m p q e
-  report_refused_within : HasStopped tells applies hooks m p q → e ≡ OutOfMemory → IsRefusedWithin tells applies hooks m p q e
+pub data IsRefusedWithin {H T D K : Type 0} (tells : K → ℕ → K → Type 0) (applies : Graph × H → Graph × H → Type 0) (hooks : Graph × H → ℕ → Graph × H → Option T → Type 0) (m : Measures (Graph × H) D) (refuses : Graph × H → ℕ → Graph × H → Error → Type 0) (p q : Parts D T H K) (e : Error) : Type 0 where
+  turn_refused_within : HasRefusedTurn tells applies hooks m refuses p q e → IsRefusedWithin tells applies hooks m refuses p q e
+  report_refused_within : HasStopped tells applies hooks m p q → e ≡ OutOfMemory → IsRefusedWithin tells applies hooks m refuses p q e
 
 -- the report of a runner that has stopped
 pub record IsReportOf {H T D K : Type 0} (is_clone : T → T → Type 0) (m : Measures (Graph × H) D) (p : Parts D T H K) (r : Report T) : Type 0 where

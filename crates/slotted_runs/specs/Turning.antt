@@ -7,10 +7,13 @@
 --     ReadsFrom clock n readings         these are the readings from the n-th on
 --     reading_in readings                the readings by their numbers, and 0 past the last
 --     Spoils s n t                       what a refused turn leaves: a graph that has failed, or one that extends what was there
+--     RefusesTurn .. s n t e            why a turn is refused, and what it leaves: memory or slots ran out, or a rule was refused, the hook, or what is kept of the turn
 --     IsStart begun clock start k        a run starts with the first reading, or it was begun with an earlier one. The reading k is next
 --     IsStopClone is_clone r s           the reason s is a clone of the reason r
 --     IsReportClone is_clone r s         the report s is that of the model, r, with a clone of its reason
 use Rattle.std.specs.Prelude.{◌≡◌, ◌⊎◌, ℕ, suc, List, [], ◌∷◌, length, Option, Some, None, IsTrue, slice_index_or}
+use Rattle.slotted_slots.specs.declared.error.Error.{Error}
+use Rattle.slotted_slots.specs.Error.{IsShortage}
 use Rattle.slotted_nodes.specs.Form.{counted}
 use Rattle.slotted_operations.specs.Graph.{Graph}
 use Rattle.slotted_operations.specs.Image.{Image}
@@ -55,6 +58,13 @@ reading_in readings n = slice_index_or readings n 0
 
 abbrev pub Spoils : {H : Type 0} → Graph × H → ℕ → Graph × H → Type 0
 Spoils s n t = IsTrue t.0.failed ⊎ ExtendsTo s.0 t.0
+
+pub data RefusesTurn {H T : Type 0} (rules : Graph → Graph → Error → Type 0) (applies : Graph × H → Graph × H → Type 0) (hook : H → Graph → ℕ → H → Graph → Error → Type 0) (hooks : Graph × H → ℕ → Graph × H → Option T → Type 0)
+    (kept : Error → Type 0) (s : Graph × H) (n : ℕ) (t : Graph × H) (e : Error) : Type 0 where
+  no_room : IsShortage e → Spoils s n t → RefusesTurn rules applies hook hooks kept s n t e
+  rules_refused : rules s.0 t.0 e → t.1 ≡ s.1 → RefusesTurn rules applies hook hooks kept s n t e
+  hook_refused : (applied : Graph × H) → applies s applied → hook applied.1 applied.0 n t.1 t.0 e → RefusesTurn rules applies hook hooks kept s n t e
+  data_refused : (applied : Graph × H) (stop : Option T) → applies s applied → hooks applied n t stop → kept e → RefusesTurn rules applies hook hooks kept s n t e
 
 abbrev pub IsStart : Option ℕ → (ℕ → ℕ) → ℕ → ℕ → Type 0
 IsStart None clock start k = (start ≡ clock 0) × (k ≡ 1)

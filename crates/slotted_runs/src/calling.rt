@@ -1,10 +1,11 @@
 //! The rules of a turn, edits of classes, and the hook after them.
 ghost use Rattle.std.specs.Prelude.{◌≡◌, ◌⊎◌, false, not, All, IsTrue, IsErrAnd, IfOk, IfErr};
 ghost use Rattle.slotted_slots.specs.Error.{IsShortage};
+ghost use Rattle.slotted_graph.specs.Analysed.{LowersData};
 ghost use Rattle.slotted_graph.specs.Extension.{ExtendsTo};
-ghost use Rattle.slotted_rules.specs.Applying.{AreModified, AreRefusedBy};
+ghost use Rattle.slotted_rules.specs.Applying.{AreModified, AreRefusedBy, RefusesRules};
 ghost use Rattle.slotted_runs.specs.Loops.{HasCalled};
-ghost use Rattle.slotted_runs.specs.Turning.{Calls, RulesOnce};
+ghost use Rattle.slotted_runs.specs.Turning.{Calls, RefusesTurn, RulesOnce};
 
 use crate::hook::{Hook, HookStop};
 use slotted_analyses::Analysis;
@@ -32,7 +33,10 @@ fn call_hook<L: Language, N: Analysis<L>, T: Drop, H: Hook<L, N, T>>(
 ) -> Result<Option<T>, Error>
     requires { graph.old.failed ≡ false }
     ensures ok { IfOk result (λ o. H.leaves hook.old graph.old iterations hook.new graph.new o) }
+    ensures refused { IfErr result
+        (λ e. IsShortage e ⊎ H.gives_up hook.old graph.old iterations hook.new graph.new e) }
     ensures extends { IsTrue graph.new.failed ⊎ ExtendsTo graph.old graph.new }
+    ensures lowers { IsTrue graph.new.failed ⊎ LowersData N.codes N.meaning graph.old graph.new }
     ensures fails { IsTrue graph.new.failed → IsErrAnd result IsShortage }
     ensures err { IfErr result (λ e. IsShortage e ⊎ H.refuses e) }
 {
@@ -64,7 +68,12 @@ pub(crate) fn apply_and_call<
         (RulesOnce Q.searches Q.applies (AreModified N.codes N.meaning N.may_ask N.modifies) rules.now)
         (Calls H.leaves)
         (graph.old, hook.old) iterations (graph.new, hook.new) (not c.changed) c.stop) }
+    ensures refused { IfErr result
+        (RefusesTurn (RefusesRules Q.searches Q.gives_up Q.applies Q.breaks_off rules.now)
+        (RulesOnce Q.searches Q.applies (AreModified N.codes N.meaning N.may_ask N.modifies) rules.now)
+        H.gives_up (Calls H.leaves) (λ _. ⊥) (graph.old, hook.old) iterations (graph.new, hook.new)) }
     ensures extends { IsTrue graph.new.failed ⊎ ExtendsTo graph.old graph.new }
+    ensures lowers { IsTrue graph.new.failed ⊎ LowersData N.codes N.meaning graph.old graph.new }
     ensures fails { IsTrue graph.new.failed → IsErrAnd result IsShortage }
     ensures err { IfErr result (λ e. IsShortage e ⊎ AreRefusedBy Q.refuses rules.now e ⊎ H.refuses e) }
 {

@@ -1,6 +1,7 @@
 //! Runs that tell what each rule did in each turn.
 ghost use Rattle.std.specs.Prelude.{◌≡◌, ◌↔◌, ◌⊎◌, false, All, IsTrue, IsErrAnd, IsErrOf, IfOk, IfErr};
 ghost use Rattle.slotted_slots.specs.Error.{IsShortage};
+ghost use Rattle.slotted_graph.specs.Analysed.{LowersData};
 ghost use Rattle.slotted_graph.specs.Extension.{ExtendsTo};
 ghost use Rattle.slotted_rules.specs.Applying.{AreModified, AreRefusedBy};
 ghost use Rattle.slotted_rules.specs.Counting.{RefusesRule};
@@ -28,6 +29,7 @@ fn take_counted<L: Language, N: Analysis<L>, C: Cond<L, N>>(
     ensures turns { IfOk result (λ turns. TakesTurns L.form C.answers rules.now
         (AreModified N.codes N.meaning N.may_ask N.modifies) turn_limit graph.old turns.items graph.new) }
     ensures extends { IsTrue graph.new.failed ⊎ ExtendsTo graph.old graph.new }
+    ensures lowers { IsTrue graph.new.failed ⊎ LowersData N.codes N.meaning graph.old graph.new }
     ensures fails { IsTrue graph.new.failed → IsErrAnd result IsShortage }
     ensures err { IfErr result (λ e. IsShortage e ⊎ AreRefusedBy (RefusesRule L.form C.refuses) rules.now e) }
 {
@@ -58,8 +60,9 @@ pub fn run_counted<L: Language, N: Analysis<L>, C: Cond<L, N>>(
     ensures turns { IfOk result (λ turns. TakesTurns L.form C.answers rules.now
         (AreModified N.codes N.meaning N.may_ask N.modifies) turn_limit graph.old turns.items graph.new) }
 
-    // What was there stays, even if a turn is refused.
+    // What was there stays, even if a turn is refused. Data is only lowered, and the limit of rounds stays.
     ensures extends { IsTrue graph.new.failed ⊎ ExtendsTo graph.old graph.new }
+    ensures lowers { IsTrue graph.new.failed ⊎ LowersData N.codes N.meaning graph.old graph.new }
     ensures stays { IsTrue graph.old.failed → graph.new ≡ graph.old }
     ensures failed { IsErrOf result Error.Failed ↔ IsTrue graph.old.failed }
     ensures fails { IsTrue graph.new.failed ↔ IsErrAnd result (λ e. (e ≡ Error.Failed) ⊎ IsShortage e) }

@@ -2,14 +2,15 @@
 ghost use Rattle.std.specs.Prelude.{◌≡◌, ◌↔◌, ◌⊎◌, ◌*◌, false, not, option_map, None, All, IsTrue, IsErrAnd, IsErrOf, IfOk, IfErr};
 ghost use Rattle.std.specs.Prelude.{OnErr};
 ghost use Rattle.slotted_slots.specs.Error.{IsShortage};
+ghost use Rattle.slotted_graph.specs.Analysed.{LowersData};
 ghost use Rattle.slotted_graph.specs.Extension.{ExtendsTo};
-ghost use Rattle.slotted_rules.specs.Applying.{AreModified, AreRefusedBy};
+ghost use Rattle.slotted_rules.specs.Applying.{AreModified, AreRefusedBy, RefusesRules};
 ghost use Rattle.slotted_model_rules.specs.Runners.{eqsat_stop};
 ghost use Rattle.slotted_runs.specs.Eqsat.{GivesEqsatReason, HasBroken, HasEnded, HasEqsatReported, HasRefusedEqsat};
 ghost use Rattle.slotted_runs.specs.Eqsat.{IsEqsatTurn};
 ghost use Rattle.slotted_runs.specs.Loops.{ReadsClock};
 ghost use Rattle.slotted_runs.specs.Seen.{stop_of};
-ghost use Rattle.slotted_runs.specs.Turning.{Calls, RulesOnce};
+ghost use Rattle.slotted_runs.specs.Turning.{Calls, RefusesTurn, RulesOnce};
 
 use crate::calling::apply_and_call;
 use crate::clock::Clock;
@@ -88,8 +89,13 @@ fn take_turn<L: Language, N: Analysis<L>, T: Drop, H: Hook<L, N, T>, K: Clock, Q
         (RulesOnce Q.searches Q.applies (AreModified N.codes N.meaning N.may_ask N.modifies) rules.now)
         (Calls H.leaves) bounds.iterations bounds.seconds bounds.start
         counted (graph.old, hook.old) clock.old (graph.new, hook.new) clock.new (option_map stop_of stop)) }
+    ensures refused { IfErr result
+        (RefusesTurn (RefusesRules Q.searches Q.gives_up Q.applies Q.breaks_off rules.now)
+        (RulesOnce Q.searches Q.applies (AreModified N.codes N.meaning N.may_ask N.modifies) rules.now)
+        H.gives_up (Calls H.leaves) (λ _. ⊥) (graph.old, hook.old) counted (graph.new, hook.new)) }
     ensures clock { OnErr result (clock.new ≡ clock.old) }
     ensures extends { IsTrue graph.new.failed ⊎ ExtendsTo graph.old graph.new }
+    ensures lowers { IsTrue graph.new.failed ⊎ LowersData N.codes N.meaning graph.old graph.new }
     ensures fails { IsTrue graph.new.failed → IsErrAnd result IsShortage }
     ensures err { IfErr result (λ e. IsShortage e ⊎ AreRefusedBy Q.refuses rules.now e ⊎ H.refuses e) }
 {
@@ -120,12 +126,17 @@ fn take_turns<L: Language, N: Analysis<L>, T: Drop, H: Hook<L, N, T>, K: Clock, 
         (RulesOnce Q.searches Q.applies (AreModified N.codes N.meaning N.may_ask N.modifies) rules.now)
         (Calls H.leaves) bounds.iterations bounds.seconds bounds.start
         (graph.old, hook.old) clock.old (graph.new, hook.new) clock.new e.counted (stop_of e.reason)) }
-    ensures refused { OnErr result (HasBroken
+    ensures refused { IfErr result (HasBroken
         K.tells
         (RulesOnce Q.searches Q.applies (AreModified N.codes N.meaning N.may_ask N.modifies) rules.now)
-        (Calls H.leaves) bounds.iterations bounds.seconds bounds.start
+        (Calls H.leaves) bounds.iterations bounds.seconds
+        (RefusesTurn (RefusesRules Q.searches Q.gives_up Q.applies Q.breaks_off rules.now)
+        (RulesOnce Q.searches Q.applies (AreModified N.codes N.meaning N.may_ask N.modifies) rules.now)
+        H.gives_up (Calls H.leaves) (λ _. ⊥))
+        bounds.start
         (graph.old, hook.old) clock.old (graph.new, hook.new) clock.new) }
     ensures extends { IsTrue graph.new.failed ⊎ ExtendsTo graph.old graph.new }
+    ensures lowers { IsTrue graph.new.failed ⊎ LowersData N.codes N.meaning graph.old graph.new }
     ensures fails { IsTrue graph.new.failed → IsErrAnd result IsShortage }
     ensures err { IfErr result (λ e. IsShortage e ⊎ AreRefusedBy Q.refuses rules.now e ⊎ H.refuses e) }
 {
@@ -158,14 +169,20 @@ pub fn run_eqsat<L: Language, N: Analysis<L>, H: Hook<L, N, String>, K: Clock, Q
         (RulesOnce Q.searches Q.applies (AreModified N.codes N.meaning N.may_ask N.modifies) rules.now)
         (Calls H.leaves) iter_limit time_limit_seconds
         (graph.old, hook.old) clock.old (graph.new, hook.new) clock.new) }
-    ensures refused { OnErr result (IsTrue graph.old.failed ⊎ HasRefusedEqsat
+
+    // A refused turn is told, with what it did, and the turns before it.
+    ensures refused { IfErr result (λ e. IsTrue graph.old.failed ⊎ HasRefusedEqsat
         K.tells
         (RulesOnce Q.searches Q.applies (AreModified N.codes N.meaning N.may_ask N.modifies) rules.now)
         (Calls H.leaves) iter_limit time_limit_seconds
-        (graph.old, hook.old) clock.old (graph.new, hook.new) clock.new) }
+        (RefusesTurn (RefusesRules Q.searches Q.gives_up Q.applies Q.breaks_off rules.now)
+        (RulesOnce Q.searches Q.applies (AreModified N.codes N.meaning N.may_ask N.modifies) rules.now)
+        H.gives_up (Calls H.leaves) (λ _. ⊥))
+        (graph.old, hook.old) clock.old (graph.new, hook.new) clock.new e) }
 
-    // What was there stays, even if a turn is refused.
+    // What was there stays, even if a turn is refused. Data is only lowered, and the limit of rounds stays.
     ensures extends { IsTrue graph.new.failed ⊎ ExtendsTo graph.old graph.new }
+    ensures lowers { IsTrue graph.new.failed ⊎ LowersData N.codes N.meaning graph.old graph.new }
     ensures stays { IsTrue graph.old.failed
         → (graph.new ≡ graph.old) × (hook.new ≡ hook.old) × (clock.new ≡ clock.old) }
     ensures failed { IsErrOf result Error.Failed ↔ IsTrue graph.old.failed }

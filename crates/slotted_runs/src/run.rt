@@ -1,12 +1,13 @@
 //! Runs of runners.
 ghost use Rattle.std.specs.Prelude.{◌≡◌, ◌↔◌, ◌⊎◌, false, All, IsTrue, IsErrAnd, IsErrOf, IsSome, IfOk, IfErr, OnOk};
 ghost use Rattle.slotted_slots.specs.Error.{IsShortage};
+ghost use Rattle.slotted_graph.specs.Analysed.{LowersData};
 ghost use Rattle.slotted_graph.specs.Extension.{ExtendsTo};
-ghost use Rattle.slotted_rules.specs.Applying.{AreModified};
+ghost use Rattle.slotted_rules.specs.Applying.{AreModified, RefusesRules};
 ghost use Rattle.slotted_runs.specs.Loops.{IsRefusedWithin};
 ghost use Rattle.slotted_runs.specs.Runs.{HasReported, IsRefused, MayRefuse};
 ghost use Rattle.slotted_runs.specs.Seen.{parts_of};
-ghost use Rattle.slotted_runs.specs.Turning.{Calls, RulesOnce, measures};
+ghost use Rattle.slotted_runs.specs.Turning.{Calls, RefusesTurn, RulesOnce, measures};
 
 use crate::clock::Clock;
 use crate::hook::Hook;
@@ -41,8 +42,12 @@ impl<
             (IsRefusedWithin K.tells
             (RulesOnce Q.searches Q.applies (AreModified N.codes N.meaning N.may_ask N.modifies) rules.now)
             (Calls H.leaves) (measures D.made)
+            (RefusesTurn (RefusesRules Q.searches Q.gives_up Q.applies Q.breaks_off rules.now)
+            (RulesOnce Q.searches Q.applies (AreModified N.codes N.meaning N.may_ask N.modifies) rules.now)
+            H.gives_up (Calls H.leaves) D.refuses)
             (parts_of self.old) (parts_of self.new)) }
         ensures extends { IsTrue self.new.egraph.failed ⊎ ExtendsTo self.old.egraph self.new.egraph }
+        ensures lowers { IsTrue self.new.egraph.failed ⊎ LowersData N.codes N.meaning self.old.egraph self.new.egraph }
         ensures fails { IsTrue self.new.egraph.failed → IsErrAnd result IsShortage }
         ensures err { IfErr result (λ e. IsShortage e ⊎ MayRefuse Q.refuses rules.now H.refuses D.refuses e) }
     {
@@ -65,14 +70,20 @@ impl<
             (Calls H.leaves) (measures D.made)
             T.is_clone (parts_of self.old) (parts_of self.new)) }
         ensures again { IsSome self.old.stop_reason → OnOk result (self.new ≡ self.old) }
+
+        // A refused turn is told, with what it did. The turns before it are stored.
         ensures refused { IfErr result (λ e. IsTrue self.old.egraph.failed
             ⊎ IsRefused K.tells
             (RulesOnce Q.searches Q.applies (AreModified N.codes N.meaning N.may_ask N.modifies) rules.now)
             (Calls H.leaves) (measures D.made)
+            (RefusesTurn (RefusesRules Q.searches Q.gives_up Q.applies Q.breaks_off rules.now)
+            (RulesOnce Q.searches Q.applies (AreModified N.codes N.meaning N.may_ask N.modifies) rules.now)
+            H.gives_up (Calls H.leaves) D.refuses)
             (parts_of self.old) (parts_of self.new) e) }
 
-        // What was there stays, even if a turn is refused.
+        // What was there stays, even if a turn is refused. Data is only lowered, and the limit of rounds stays.
         ensures extends { IsTrue self.new.egraph.failed ⊎ ExtendsTo self.old.egraph self.new.egraph }
+        ensures lowers { IsTrue self.new.egraph.failed ⊎ LowersData N.codes N.meaning self.old.egraph self.new.egraph }
         ensures stays { IsTrue self.old.egraph.failed → self.new ≡ self.old }
         ensures failed { IsErrOf result Error.Failed ↔ IsTrue self.old.egraph.failed }
         ensures fails { IsTrue self.new.egraph.failed

@@ -2,7 +2,7 @@
 ghost use Rattle.std.specs.Prelude.{◌≡◌, ◌↔◌, ◌⊎◌, IsTrue, IsOk, IsErrOf, IfOk, IfErr, OnOk};
 ghost use Rattle.slotted_slots.specs.Error.{IsShortage};
 ghost use Rattle.slotted_terms.specs.Valid.{IsValidTerm};
-ghost use Rattle.slotted_graph.specs.Analysed.{new_graph};
+ghost use Rattle.slotted_graph.specs.Analysed.{CarriesData, new_graph};
 ghost use Rattle.slotted_runs.specs.Seen.{AddsId, AddsRoot, new_parts, parts_of, with_other_hook};
 
 use crate::clock::Clock;
@@ -71,6 +71,7 @@ fn add_root<L: Language, N: Analysis<L>>(
 ) -> Result<(), Error>
     requires { IsTrue graph.old.failed ⊎ IsValidTerm graph.old.table term.now }
     ensures ok { OnOk result (AddsId term.now graph.old graph.new roots.old.items roots.new.items) }
+    ensures carries { OnOk result (CarriesData N.codes N.meaning graph.old graph.new) }
     ensures failed { IsErrOf result Error.Failed ↔ IsTrue graph.old.failed }
     ensures only { IfErr result (λ e. (e ≡ Error.Failed) ⊎ IsShortage e) }
 {
@@ -118,6 +119,7 @@ impl<
     pub fn with_expr(mut self, term: &RecExpr<L>) -> Result<Self, Error>
         requires { IsTrue self.egraph.failed ⊎ IsValidTerm self.egraph.table term.now }
         ensures ok { IfOk result (λ r. AddsRoot term.now (parts_of self) (parts_of r)) }
+        ensures carries { IfOk result (λ r. CarriesData N.codes N.meaning self.egraph r.egraph) }
         ensures failed { IsErrOf result Error.Failed ↔ IsTrue self.egraph.failed }
         ensures only { IfErr result (λ e. (e ≡ Error.Failed) ⊎ IsShortage e) }
     {

@@ -1,13 +1,14 @@
 //! Runners take turns until one stops them.
-ghost use Rattle.std.specs.Prelude.{◌≡◌, ◌⊎◌, false, None, All, IsTrue, IsErrAnd, IsSome, IfErr, OnErr, OnOk, map};
+ghost use Rattle.std.specs.Prelude.{◌≡◌, ◌⊎◌, false, None, All, IsTrue, IsErrAnd, IsSome, IfErr, OnOk, map};
 ghost use Rattle.slotted_slots.specs.Error.{IsShortage};
 ghost use Rattle.slotted_model_rules.specs.Runners.{last_finish, time_between};
+ghost use Rattle.slotted_graph.specs.Analysed.{LowersData};
 ghost use Rattle.slotted_graph.specs.Extension.{ExtendsTo};
-ghost use Rattle.slotted_rules.specs.Applying.{AreModified};
+ghost use Rattle.slotted_rules.specs.Applying.{AreModified, RefusesRules};
 ghost use Rattle.slotted_runs.specs.Loops.{HasRefused, HasStopped, HasTaken, IsBegun};
 ghost use Rattle.slotted_runs.specs.Runs.{HasRefusedTurn, MayRefuse};
 ghost use Rattle.slotted_runs.specs.Seen.{iteration_of, limits_of, parts_of, start_of};
-ghost use Rattle.slotted_runs.specs.Turning.{Calls, RulesOnce, measures};
+ghost use Rattle.slotted_runs.specs.Turning.{Calls, RefusesTurn, RulesOnce, measures};
 
 use crate::clock::Clock;
 use crate::hook::Hook;
@@ -72,12 +73,17 @@ impl<
             (Calls H.leaves) (measures D.made)
             (limits_of self.old.limits) start (parts_of self.old) (parts_of self.new)) }
         ensures stopped { OnOk result (IsSome self.new.stop_reason) }
-        ensures refused { OnErr result
+        ensures refused { IfErr result
             (HasRefused K.tells
             (RulesOnce Q.searches Q.applies (AreModified N.codes N.meaning N.may_ask N.modifies) rules.now)
             (Calls H.leaves) (measures D.made)
-            (limits_of self.old.limits) start (parts_of self.old) (parts_of self.new)) }
+            (limits_of self.old.limits) start
+            (RefusesTurn (RefusesRules Q.searches Q.gives_up Q.applies Q.breaks_off rules.now)
+            (RulesOnce Q.searches Q.applies (AreModified N.codes N.meaning N.may_ask N.modifies) rules.now)
+            H.gives_up (Calls H.leaves) D.refuses)
+            (parts_of self.old) (parts_of self.new)) }
         ensures extends { IsTrue self.new.egraph.failed ⊎ ExtendsTo self.old.egraph self.new.egraph }
+        ensures lowers { IsTrue self.new.egraph.failed ⊎ LowersData N.codes N.meaning self.old.egraph self.new.egraph }
         ensures fails { IsTrue self.new.egraph.failed → IsErrAnd result IsShortage }
         ensures err { IfErr result (λ e. IsShortage e ⊎ MayRefuse Q.refuses rules.now H.refuses D.refuses e) }
     {
@@ -99,12 +105,16 @@ impl<
             (Calls H.leaves) (measures D.made)
             (parts_of self.old) (parts_of self.new)) }
         ensures again { IsSome self.old.stop_reason → self.new ≡ self.old }
-        ensures refused { OnErr result
+        ensures refused { IfErr result
             (HasRefusedTurn K.tells
             (RulesOnce Q.searches Q.applies (AreModified N.codes N.meaning N.may_ask N.modifies) rules.now)
             (Calls H.leaves) (measures D.made)
+            (RefusesTurn (RefusesRules Q.searches Q.gives_up Q.applies Q.breaks_off rules.now)
+            (RulesOnce Q.searches Q.applies (AreModified N.codes N.meaning N.may_ask N.modifies) rules.now)
+            H.gives_up (Calls H.leaves) D.refuses)
             (parts_of self.old) (parts_of self.new)) }
         ensures extends { IsTrue self.new.egraph.failed ⊎ ExtendsTo self.old.egraph self.new.egraph }
+        ensures lowers { IsTrue self.new.egraph.failed ⊎ LowersData N.codes N.meaning self.old.egraph self.new.egraph }
         ensures fails { IsTrue self.new.egraph.failed → IsErrAnd result IsShortage }
         ensures err { IfErr result (λ e. IsShortage e ⊎ MayRefuse Q.refuses rules.now H.refuses D.refuses e) }
     {

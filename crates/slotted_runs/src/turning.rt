@@ -2,12 +2,13 @@
 ghost use Rattle.std.specs.Prelude.{◌≡◌, ◌⊎◌, false, not, length, option_map, None, All, IsTrue, IsErrAnd, IfOk, IfErr, OnErr};
 ghost use Rattle.slotted_slots.specs.Error.{IsShortage};
 ghost use Rattle.slotted_model_rules.specs.Runners.{runner_stop};
+ghost use Rattle.slotted_graph.specs.Analysed.{LowersData};
 ghost use Rattle.slotted_graph.specs.Extension.{ExtendsTo};
-ghost use Rattle.slotted_rules.specs.Applying.{AreModified};
+ghost use Rattle.slotted_rules.specs.Applying.{AreModified, RefusesRules};
 ghost use Rattle.slotted_runs.specs.Loops.{GivesReason, HasTurned, ReadsClock};
 ghost use Rattle.slotted_runs.specs.Runs.{MayRefuse};
 ghost use Rattle.slotted_runs.specs.Seen.{iteration_of, limits_of, parts_of, stop_of};
-ghost use Rattle.slotted_runs.specs.Turning.{Calls, RulesOnce, measures};
+ghost use Rattle.slotted_runs.specs.Turning.{Calls, RefusesTurn, RulesOnce, measures};
 
 use crate::calling::apply_and_call;
 use crate::clock::Clock;
@@ -97,8 +98,14 @@ impl<
             start (length self.old.iterations.items) (parts_of self.old) (parts_of self.new)) }
         ensures rest { let q = parts_of self.new in q
             ≡ record (parts_of self.old) { graph = q.graph; hook = q.hook; clock = q.clock } }
+        ensures refused { IfErr result
+            (RefusesTurn (RefusesRules Q.searches Q.gives_up Q.applies Q.breaks_off rules.now)
+            (RulesOnce Q.searches Q.applies (AreModified N.codes N.meaning N.may_ask N.modifies) rules.now)
+            H.gives_up (Calls H.leaves) D.refuses
+            (self.old.egraph, self.old.hook) (length self.old.iterations.items) (self.new.egraph, self.new.hook)) }
         ensures clock { OnErr result (ReadsClock K.tells self.old.clock self.new.clock) }
         ensures extends { IsTrue self.new.egraph.failed ⊎ ExtendsTo self.old.egraph self.new.egraph }
+        ensures lowers { IsTrue self.new.egraph.failed ⊎ LowersData N.codes N.meaning self.old.egraph self.new.egraph }
         ensures fails { IsTrue self.new.egraph.failed → IsErrAnd result IsShortage }
         ensures err { IfErr result (λ e. IsShortage e ⊎ MayRefuse Q.refuses rules.now H.refuses D.refuses e) }
     {

@@ -1,6 +1,6 @@
 -- What a run over a graph says of the graph before and after.
 use Rattle.std.proofs.Common.{◌≡◌, ◌⊎◌, ◌↔◌, ◌∙◌, ℕ, List, Result, Ok, Err, IfOk, IfErr, IsErrOf, ap, refl, sym, inl, inr}
-use Rattle.std.specs.Prelude.{Bool, true, false, IsErrAnd, IsTrue, OnErr, String}
+use Rattle.std.specs.Prelude.{Bool, true, false, IsErrAnd, IsTrue, String}
 use Rattle.std.specs.declared.alloc.Global.{Global}
 use Rattle.std.proofs.lemmas.Bool.{false≢true}
 use Rattle.slotted_slots.specs.declared.error.Error.{Error}
@@ -19,7 +19,7 @@ use Rattle.slotted_runs.specs.Eqsat.{HasEqsatReported, HasRefusedEqsat}
 use Rattle.slotted_runs.specs.Turning.{Calls, RulesOnce}
 use Rattle.slotted_runs.specs.declared.report.Report.{Report}
 use Rattle.slotted_commands.proofs.Steps.{not_true, sound_graph}
-use Rattle.slotted_workspace.specs.Runs.{RunAnswers, RunRefused, TellsZero, applies_by, endless, leaves_by, searches_by}
+use Rattle.slotted_workspace.specs.Runs.{RunAnswers, RunRefused, TellsZero, applies_by, endless, leaves_by, refuses_by, searches_by}
 use Rattle.slotted_workspace.specs.declared.running.NoClock.{NoClock}
 use Rattle.slotted_workspace.specs.declared.running.NodeLimit.{NodeLimit}
 
@@ -27,13 +27,13 @@ module _ {L : Type 0} (form : L → Form) (rules : List (Rewrite L CondTree)) (t
   abbrev Reported : Report (String Global) → Type 0
   Reported r = HasEqsatReported TellsZero (RulesOnce (searches_by form) (applies_by form) (NeverModified L) rules) (Calls leaves_by) turns endless (g, hook) clock (h, last) later r
 
-  abbrev Broken : Type 0
-  Broken = HasRefusedEqsat TellsZero (RulesOnce (searches_by form) (applies_by form) (NeverModified L) rules) (Calls leaves_by) turns endless (g, hook) clock (h, last) later
+  abbrev Broken : Error → Type 0
+  Broken e = HasRefusedEqsat TellsZero (RulesOnce (searches_by form) (applies_by form) (NeverModified L) rules) (Calls leaves_by) turns endless (refuses_by form rules) (g, hook) clock (h, last) later e
 
   abbrev Refused : Error → Type 0
   Refused e = AreRefusedBy (RefusesRule form (λ c s _. TreeRefuses c s)) rules e
 
-  pub run-answers : (o : Result (Report (String Global)) Error) → IfOk o Reported → OnErr o (IsTrue g.failed ⊎ Broken) → IsErrOf o Failed ↔ IsTrue g.failed → IsTrue h.failed ↔ IsErrAnd o (λ e. (e ≡ Failed) ⊎ IsShortage e) → IfErr o (λ e. (e ≡ Failed) ⊎ IsShortage e ⊎ Refused e ⊎ ⊥) → RunAnswers form rules turns hook.nodes g h o
+  pub run-answers : (o : Result (Report (String Global)) Error) → IfOk o Reported → IfErr o (λ e. IsTrue g.failed ⊎ Broken e) → IsErrOf o Failed ↔ IsTrue g.failed → IsTrue h.failed ↔ IsErrAnd o (λ e. (e ≡ Failed) ⊎ IsShortage e) → IfErr o (λ e. (e ≡ Failed) ⊎ IsShortage e ⊎ Refused e ⊎ ⊥) → RunAnswers form rules turns hook.nodes g h o
   run-answers (Ok r) ok refused failed fails err = record {
     well = sound_graph g.failed (Ok r) r refl failed.1;
     sound = not_true h.failed (λ f. fails.0 f);
@@ -47,7 +47,7 @@ module _ {L : Type 0} (form : L → Form) (rules : List (Rewrite L CondTree)) (t
   }
   run-answers (Err e) ok refused failed fails err = by g.failed refl
     where
-      broken : g.failed ≡ false → IsTrue g.failed ⊎ Broken → Broken
+      broken : g.failed ≡ false → IsTrue g.failed ⊎ Broken e → Broken e
       broken well (inl f) = absurd (false≢true (sym well ∙ f))
       broken well (inr b) = b
 

@@ -2,6 +2,7 @@
 --     TellsZero                    the clock tells 0, and stays as it is
 --     StopsPast n g h stop         a hook leaves the graph as it is, and stops the run, by this text, past n filed nodes
 --     searches_by, applies_by      what a rule finds, and what it does with that
+--     refuses_by form rules        why a turn is refused, and what it leaves
 --     HasRun form rules ..         from g to h the rules were run with these limits, and this is the report
 --     RunRefused ..                such a run was refused
 --     RunAnswers .. o              what such a run answers
@@ -14,13 +15,13 @@ use Rattle.slotted_nodes.specs.Form.{Form}
 use Rattle.slotted_operations.specs.Graph.{Graph}
 use Rattle.slotted_graph.specs.Extension.{ExtendsTo}
 use Rattle.slotted_model_rules.specs.Conditions.{Values}
-use Rattle.slotted_rules.specs.Applying.{AreRefusedBy, NeverModified}
-use Rattle.slotted_rules.specs.Counting.{AppliesRule, RefusesRule, SearchesRule}
+use Rattle.slotted_rules.specs.Applying.{AreRefusedBy, NeverModified, RefusesRules}
+use Rattle.slotted_rules.specs.Counting.{AppliesRule, BreaksRule, RefusesRule, SearchesRule}
 use Rattle.slotted_rules.specs.TreeAnswers.{AnswersTree, TreeRefuses}
 use Rattle.slotted_rules.specs.declared.condition_tree.CondTree.{CondTree}
 use Rattle.slotted_rules.specs.declared.rewrite.Rewrite.{Rewrite}
 use Rattle.slotted_runs.specs.Eqsat.{HasEqsatReported, HasRefusedEqsat}
-use Rattle.slotted_runs.specs.Turning.{Calls, RulesOnce}
+use Rattle.slotted_runs.specs.Turning.{Calls, RefusesTurn, RulesOnce}
 use Rattle.slotted_runs.specs.declared.report.Report.{Report}
 use Rattle.slotted_workspace.specs.Asked.{HadFailed}
 use Rattle.slotted_workspace.specs.Spaces.{Space, rule_of}
@@ -47,6 +48,11 @@ leaves_by h g n i k stop = StopsPast h.nodes g k stop × (i ≡ h)
 abbrev pub endless : ℕ
 endless = 2 ^ 64 - 1
 
+-- why a turn is refused: nothing is kept of turns, and the hook is refused for want of memory alone
+abbrev pub refuses_by : {L : Type 0} → (L → Form) → List (Rewrite L CondTree) → Graph × NodeLimit → ℕ → Graph × NodeLimit → Error → Type 0
+refuses_by {L} form rules = RefusesTurn (RefusesRules (searches_by form) (λ _ _ _ _. ⊥) (applies_by form) (BreaksRule form (λ c s _. AnswersTree c s) (λ c s _. TreeRefuses c s)) rules)
+    (RulesOnce (searches_by form) (applies_by form) (NeverModified L) rules) (λ _ _ _ _ _ _. ⊥) (Calls leaves_by) (λ _. ⊥)
+
 -- a turn that stops the run is not counted
 pub record HasRun {L : Type 0} (form : L → Form) (rules : List (Rewrite L CondTree)) (turns nodes : ℕ) (g h : Graph) (r : Report (String Global)) : Type 0 where
   pub well : g.failed ≡ false
@@ -69,7 +75,7 @@ pub record IsRefusedRun {L : Type 0} (form : L → Form) (rules : List (Rewrite 
   pub last : NodeLimit
   pub clock : NoClock
   pub later : NoClock
-  pub refused : HasRefusedEqsat TellsZero (RulesOnce (searches_by form) (applies_by form) (NeverModified L) rules) (Calls leaves_by) turns endless (g, hook) clock (h, last) later
+  pub refused : HasRefusedEqsat TellsZero (RulesOnce (searches_by form) (applies_by form) (NeverModified L) rules) (Calls leaves_by) turns endless (refuses_by form rules) (g, hook) clock (h, last) later e
 
 abbrev pub RunRefused : {L : Type 0} → (L → Form) → List (Rewrite L CondTree) → ℕ → ℕ → Graph → Graph → Error → Type 0
 RunRefused form rules turns nodes g h e = HadFailed g h e ⊎ IsRefusedRun form rules turns nodes g h e

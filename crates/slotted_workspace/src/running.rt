@@ -58,6 +58,8 @@ impl<L: Language, N: Analysis<L>> Hook<L, N, String> for NodeLimit {
 
     ghost refuses = { λ e. ⊥ };
 
+    ghost gives_up = { λ h g n i k e. ⊥ };
+
     ghost never_failed = { λ r. r };
 
     fn call(

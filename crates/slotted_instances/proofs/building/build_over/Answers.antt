@@ -12,6 +12,7 @@ use Rattle.slotted_model_rules.specs.Matcher.{value_at}
 use Rattle.slotted_rule_patterns.specs.Values.{values_of}
 use Rattle.slotted_rule_patterns.proofs.Rows.{tree_of-node, tree_of-variable, tree_of-substitution}
 use Rattle.slotted_graph.specs.Adding.{AddsSyn}
+use Rattle.slotted_instances.proofs.Carrying.{carries-itself, failed-or-for}
 use Rattle.slotted_instances.specs.Instances.{HasValues}
 use Rattle.slotted_instances.specs.Stacked.{BuildsOver, IsReady, last_ids}
 use Rattle.slotted_instances.proofs.Answering.{err-mapped, err-then, ok-added, ok-copied, ok-mapped}
@@ -127,3 +128,15 @@ returns-in-Subst-clause-ok g c =
     subst (λ q. IfOk c.put_last.result (λ a. BuildsOver m h i s q ids rest (to_applied a))) (sym (tree_of-substitution form c.args.pattern.now c.in-Subst.field-0 c.in-Subst.field-1 c.in-Subst.field-2 c.in-Subst.is))
     (ok-mapped c.put_last.result c.put_last.ensures.ok
     (λ a p. over-substitution m h i s (tree_of form c.in-Subst.field-0.value) (tree_of form c.in-Subst.field-1.value) (tree_of form c.in-Subst.field-2.value) ids rest (to_applied a) p))
+
+pub returns-in_err-node-in-ENode-clause-carries : goal.returns-in_err-node-in-ENode-clause-carries
+returns-in_err-node-in-ENode-clause-carries g c = inr (carries-itself g.N.Analysis.codes g.N.Analysis.meaning g.met.N.Analysis.is_merge c.args.graph.now)
+
+pub returns-in_err-over-in-ENode-clause-carries : goal.returns-in_err-over-in-ENode-clause-carries
+returns-in_err-over-in-ENode-clause-carries g c = inr (carries-itself g.N.Analysis.codes g.N.Analysis.meaning g.met.N.Analysis.is_merge c.args.graph.now)
+
+pub returns-in_ok-over-in-ENode-clause-carries : goal.returns-in_ok-over-in-ENode-clause-carries
+returns-in_ok-over-in-ENode-clause-carries g c = failed-or-for g.N.Analysis.codes g.N.Analysis.meaning c.args.graph.now c.add_node.new.graph (λ k. tt) c.add_node.ensures.carries
+
+pub returns-in-Some-clause-carries : goal.returns-in-Some-clause-carries
+returns-in-Some-clause-carries g c = inr (carries-itself g.N.Analysis.codes g.N.Analysis.meaning g.met.N.Analysis.is_merge c.args.graph.now)

@@ -1,5 +1,7 @@
+use Rattle.slotted_graph.proofs.Extending.{extends-takes}
 use Rattle.std.proofs.Common.{inr}
 use Rattle.slotted_proofs.specs.Equations.{to_applied}
+use Rattle.slotted_instances.proofs.Carrying.{carries-takes, carries-then, filled-carries, later-carries}
 use Rattle.slotted_instances.proofs.Answering.{err-then}
 use Rattle.slotted_instances.proofs.Growing.{extended-grows, filled-grows, grows-takes, grows-then, later-grows}
 use Rattle.slotted_instances.proofs.Putting.{ok-put}
@@ -45,3 +47,22 @@ returns-clause-err g c =
     let h = c.subst-answer.new.graph in
     let all = filled-grows c.args.graph.now c.full_id.new.self c.full_id-2.new.self i c.requires.graph c.full_id.ensures.takes c.full_id-2.ensures.takes c.full_id-3.ensures.takes in
     err-then c.subst-answer.result (later-grows c.args.graph.now i h all (extended-grows i h c.is_failed.ensures.rests c.subst-answer.ensures.extends))
+
+pub returns-in_err-b-clause-carries : goal.returns-in_err-b-clause-carries
+returns-in_err-b-clause-carries g c = inr (carries-takes g.N.Analysis.codes g.N.Analysis.meaning g.met.N.Analysis.is_merge c.args.graph.now c.full_id.new.self c.full_id.ensures.takes)
+
+pub returns-in_err-x-clause-carries : goal.returns-in_err-x-clause-carries
+returns-in_err-x-clause-carries g c =
+    let g0 = c.args.graph.now in
+    let e = c.full_id.new.self in
+    let f = c.full_id-2.new.self in
+    inr (carries-then g.N.Analysis.codes g.N.Analysis.meaning g.met.N.Analysis.is_merge g0 e f (extends-takes g0 e c.full_id.ensures.takes) (carries-takes g.N.Analysis.codes g.N.Analysis.meaning g.met.N.Analysis.is_merge g0 e c.full_id.ensures.takes) (carries-takes g.N.Analysis.codes g.N.Analysis.meaning g.met.N.Analysis.is_merge e f c.full_id-2.ensures.takes))
+
+pub returns-in_err-t-clause-carries : goal.returns-in_err-t-clause-carries
+returns-in_err-t-clause-carries g c = inr (filled-carries g.N.Analysis.codes g.N.Analysis.meaning g.met.N.Analysis.is_merge c.args.graph.now c.full_id.new.self c.full_id-2.new.self c.full_id-3.new.self c.full_id.ensures.takes c.full_id-2.ensures.takes c.full_id-3.ensures.takes).1
+
+pub returns-clause-carries : goal.returns-clause-carries
+returns-clause-carries g c =
+    let i = c.full_id-3.new.self in
+    let filled = filled-carries g.N.Analysis.codes g.N.Analysis.meaning g.met.N.Analysis.is_merge c.args.graph.now c.full_id.new.self c.full_id-2.new.self i c.full_id.ensures.takes c.full_id-2.ensures.takes c.full_id-3.ensures.takes in
+    later-carries g.N.Analysis.codes g.N.Analysis.meaning g.met.N.Analysis.is_merge c.args.graph.now i c.subst-answer.new.graph filled.0 filled.1 c.subst-answer.ensures.carries

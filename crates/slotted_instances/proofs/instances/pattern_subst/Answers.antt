@@ -1,9 +1,10 @@
-use Rattle.std.proofs.Common.{sym, subst, rules}
+use Rattle.std.proofs.Common.{inr, sym, subst, rules}
 use Rattle.std.specs.Prelude.{IsSome, OnOk}
 use Rattle.slotted_patterns.specs.View.{tree_of}
 use Rattle.slotted_proofs.specs.Equations.{to_applied}
 use Rattle.slotted_rule_patterns.specs.PatternCode.{pattern_in}
 use Rattle.slotted_rule_patterns.specs.Values.{values_of}
+use Rattle.slotted_instances.proofs.Carrying.{carries-itself, left-carries}
 use Rattle.slotted_instances.specs.Instances.{InstantiatesKnown}
 use Rattle.slotted_instances.specs.Refusals.{IsMissing, PassesTests}
 use Rattle.slotted_instances.proofs.Refusing.{left-extends, missing-long, tests-passed}
@@ -24,3 +25,9 @@ returns-clause-tested g c =
     let q = tree_of g.L.LanguageChildren.form c.args.pattern.now in
     let whole : IsSome (pattern_in q) = search rules in
     subst (λ r. OnOk r (PassesTests s q)) (sym c.failing.ensures.same) (tests-passed s q c.instance-answer.result whole c.instance-answer.ensures.given)
+
+pub returns-clause-carries : goal.returns-clause-carries
+returns-clause-carries g c = left-carries g.N.Analysis.codes g.N.Analysis.meaning c.args.graph.now c.instance-answer.new.graph c.failing.new.graph c.instance-answer.ensures.carries c.failing.ensures.left
+
+pub returns-then-not-is_whole-clause-carries : goal.returns-then-not-is_whole-clause-carries
+returns-then-not-is_whole-clause-carries g c = inr (carries-itself g.N.Analysis.codes g.N.Analysis.meaning g.met.N.Analysis.is_merge c.args.graph.now)

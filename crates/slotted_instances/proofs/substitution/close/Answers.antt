@@ -1,8 +1,9 @@
 -- A frame that is done has the answer for its id: this id if no child has changed, or else that of its node.
-use Rattle.std.proofs.Common.{subst, sym}
+use Rattle.std.proofs.Common.{subst, sym, inr}
 use Rattle.slotted_proofs.specs.Equations.{to_applied}
 use Rattle.slotted_graph.specs.Adding.{AddsSyn}
 use Rattle.slotted_graph.specs.Graph.{IsFullId}
+use Rattle.slotted_instances.proofs.Carrying.{carries-itself}
 use Rattle.slotted_instances.specs.Building.{Builds}
 use Rattle.slotted_instances.specs.Frames.{Closes}
 use Rattle.slotted_instances.specs.Substituting.{Replaces}
@@ -33,3 +34,6 @@ pub returns-clause-ok : goal.returns-clause-ok
 returns-clause-ok g c start x t b is =
     let i = c.args.graph.now in
     subst (Replaces start i x t b) (sym is.id) (frame-same g.L.LanguageChildren.form x t start i b c.args.frame is c.requires.whole c.if-changed.false)
+
+pub returns-clause-carries : goal.returns-clause-carries
+returns-clause-carries g c = inr (carries-itself g.N.Analysis.codes g.N.Analysis.meaning g.met.N.Analysis.is_merge c.args.graph.now)

@@ -5,6 +5,7 @@ use Rattle.slotted_proofs.specs.Equations.{to_applied}
 use Rattle.slotted_slots.specs.declared.types.AppliedId.{AppliedId}
 use Rattle.slotted_model.specs.Applied.{Applied}
 use Rattle.slotted_graph.specs.Graph.{IsFullId}
+use Rattle.slotted_instances.proofs.Carrying.{carries-itself}
 use Rattle.slotted_instances.specs.Frames.{IsKnownAnswer, Opens, next_child}
 use Rattle.slotted_instances.proofs.Answering.{err-then}
 use Rattle.slotted_instances.proofs.Growing.{builds-itself, builds-takes}
@@ -107,3 +108,12 @@ returns-clause-work g c start b is =
     let child = subst (λ (a : AppliedId). to_applied a ≡ next_child form r) (sym c.in_ok-child.ensures.ok) next in
     enters-work form x t start i b s is c.requires.lacks j q c.replace-waiting.result (record { waiting = c.push.new.self; current = c.replace-waiting.new.dest }) c.replace-waiting.ensures.after c.replace-waiting.ensures.value c.in_ok-push.ensures.items
     (g.met.L.LanguageChildren.fits q.node) (subst (λ (a : Applied). Opens form i j a q) child c.in_ok-frame.ensures.ok)
+
+pub returns-in_err-child-clause-carries : goal.returns-in_err-child-clause-carries
+returns-in_err-child-clause-carries g c = inr (carries-itself g.N.Analysis.codes g.N.Analysis.meaning g.met.N.Analysis.is_merge c.args.graph.now)
+
+pub returns-in_err-answer-clause-carries : goal.returns-in_err-answer-clause-carries
+returns-in_err-answer-clause-carries g c = inr (carries-itself g.N.Analysis.codes g.N.Analysis.meaning g.met.N.Analysis.is_merge c.args.graph.now)
+
+pub returns-in-Some-clause-carries : goal.returns-in-Some-clause-carries
+returns-in-Some-clause-carries g c = inr (carries-itself g.N.Analysis.codes g.N.Analysis.meaning g.met.N.Analysis.is_merge c.args.graph.now)

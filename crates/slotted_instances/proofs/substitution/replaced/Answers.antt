@@ -3,6 +3,7 @@ use Rattle.std.proofs.Common.{inr, refl, subst, sym}
 use Rattle.std.specs.Prelude.{IfSome}
 use Rattle.slotted_model.specs.Applied.{Applied}
 use Rattle.slotted_proofs.specs.Equations.{to_applied}
+use Rattle.slotted_instances.proofs.Carrying.{carries-itself, carries-on, carries-takes, later-carries}
 use Rattle.slotted_instances.specs.Frames.{Closes, IsKnownAnswer, Waits}
 use Rattle.slotted_instances.specs.Substituting.{Replaces}
 use Rattle.slotted_instances.proofs.Answering.{err-mapped, err-then, ok-mapped}
@@ -40,6 +41,7 @@ loop-stack-init g c =
         current = opens-frame form x t g0 c.frame_for.new.graph b current r.graph r.part r.value r.body (c.in_ok-answer.ensures.none c.in_default.is)
             (g.met.L.LanguageChildren.fits current.node) c.in_ok-current.ensures.ok;
       };
+      carries = carries-takes g.N.Analysis.codes g.N.Analysis.meaning g.met.N.Analysis.is_merge g0 c.frame_for.new.graph c.in_ok-current.ensures.ok.takes;
     }
 
 pub returns-in_err-step-clause-err : goal.returns-in_err-step-clause-err
@@ -55,7 +57,16 @@ loop-stack-smaller g c = c.in_ok-step.ensures.work c.if-branch.true c.args.graph
 
 pub loop-stack-preserved : goal.loop-stack-preserved
 loop-stack-preserved g c =
-    record { stack = c.in_ok-step.ensures.stack c.args.graph.now (to_applied c.args.b.now) c.loop-stack.invariant.stack }
+    let g0 = c.args.graph.now in
+    let i = c.loop-stack.graph in
+    let b : Applied = to_applied c.args.b.now in
+    let before = c.loop-stack.invariant.stack in
+    let after = c.in_ok-step.ensures.stack g0 b before in
+    let builds = stack-builds g.L.LanguageChildren.form (to_applied c.args.x.now) (to_applied c.args.t.now) g0 i b c.loop-stack.stack before in
+    record {
+      stack = after;
+      carries = carries-on g.N.Analysis.codes g.N.Analysis.meaning g.met.N.Analysis.is_merge g0 i c.step.new.graph builds.grows.extends c.loop-stack.invariant.carries after.current.walked.builds.grows.graph.well c.step.ensures.carries;
+    }
 
 pub close-requires : goal.close-requires
 close-requires g c =
@@ -92,3 +103,32 @@ returns-clause-err g c =
     let s = c.in_ok-step.ensures.stack g0 b c.loop-stack.invariant.stack in
     err-mapped c.close.result c.close.ensures.err
     (later-builds g0 j c.close.new.graph (stack-builds g.L.LanguageChildren.form (to_applied c.args.x.now) (to_applied c.args.t.now) g0 j b c.step.new.stack s))
+
+pub returns-in_err-answer-clause-carries : goal.returns-in_err-answer-clause-carries
+returns-in_err-answer-clause-carries g c = inr (carries-itself g.N.Analysis.codes g.N.Analysis.meaning g.met.N.Analysis.is_merge c.args.graph.now)
+
+pub returns-in-Some-clause-carries : goal.returns-in-Some-clause-carries
+returns-in-Some-clause-carries g c = inr (carries-itself g.N.Analysis.codes g.N.Analysis.meaning g.met.N.Analysis.is_merge c.args.graph.now)
+
+pub returns-in_err-step-clause-carries : goal.returns-in_err-step-clause-carries
+returns-in_err-step-clause-carries g c =
+    let g0 = c.args.graph.now in
+    let i = c.loop-stack.graph in
+    let builds = stack-builds g.L.LanguageChildren.form (to_applied c.args.x.now) (to_applied c.args.t.now) g0 i (to_applied c.args.b.now) c.loop-stack.stack c.loop-stack.invariant.stack in
+    later-carries g.N.Analysis.codes g.N.Analysis.meaning g.met.N.Analysis.is_merge g0 i c.step.new.graph builds.grows.extends c.loop-stack.invariant.carries c.step.ensures.carries
+
+pub returns-clause-carries : goal.returns-clause-carries
+returns-clause-carries g c =
+    let form = g.L.LanguageChildren.form in
+    let g0 = c.args.graph.now in
+    let i = c.loop-stack.graph in
+    let j = c.step.new.graph in
+    let x : Applied = to_applied c.args.x.now in
+    let t : Applied = to_applied c.args.t.now in
+    let b : Applied = to_applied c.args.b.now in
+    let before = c.loop-stack.invariant.stack in
+    let after = c.in_ok-step.ensures.stack g0 b before in
+    let builds = stack-builds form x t g0 i b c.loop-stack.stack before in
+    let built = stack-builds form x t g0 j b c.step.new.stack after in
+    let carries = carries-on g.N.Analysis.codes g.N.Analysis.meaning g.met.N.Analysis.is_merge g0 i j builds.grows.extends c.loop-stack.invariant.carries after.current.walked.builds.grows.graph.well c.step.ensures.carries in
+    later-carries g.N.Analysis.codes g.N.Analysis.meaning g.met.N.Analysis.is_merge g0 j c.close.new.graph built.grows.extends carries c.close.ensures.carries

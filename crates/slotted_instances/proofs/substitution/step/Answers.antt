@@ -1,8 +1,9 @@
 -- Where the current frame is done, its answer is that for the child that the last frame waits for.
-use Rattle.std.proofs.Common.{◌≡◌, refl, subst, sym}
+use Rattle.std.proofs.Common.{◌≡◌, refl, subst, sym, inr}
 use Rattle.std.specs.Prelude.{length}
 use Rattle.slotted_nodes.specs.Form.{children}
 use Rattle.slotted_proofs.specs.Equations.{to_applied}
+use Rattle.slotted_instances.proofs.Carrying.{carries-itself}
 use Rattle.slotted_instances.specs.Frames.{Closes, IsOpen, TakesAnswer}
 use Rattle.slotted_instances.proofs.FrameStacks.{hands-work, stack-count, stack-hands, stack-lacks}
 use Rattle.slotted_instances.proofs.substitution.step.Goals as goal
@@ -41,3 +42,6 @@ returns-clause-work g c _ start b is =
     let takes = subst (λ f. TakesAnswer form f now answer) c.replace-done.ensures.after c.take_answer.ensures in
     hands-work form (to_applied c.args.x.now) (to_applied c.args.t.now) start c.args.graph.now b c.args.stack.now is c.pop.new.self.items above c.in-Some.ensures.items c.close.new.graph answer (record { waiting = c.pop.new.self; current = now })
     (g.met.L.LanguageChildren.fits above.node) takes refl start.image.canonical
+
+pub returns-in_default-clause-carries : goal.returns-in_default-clause-carries
+returns-in_default-clause-carries g c = inr (carries-itself g.N.Analysis.codes g.N.Analysis.meaning g.met.N.Analysis.is_merge c.args.graph.now)

@@ -1,9 +1,10 @@
-use Rattle.std.proofs.Common.{sym, subst, rules}
+use Rattle.std.proofs.Common.{inr, sym, subst, rules}
 use Rattle.std.specs.Prelude.{IsSome, OnOk}
 use Rattle.slotted_patterns.specs.View.{tree_of}
 use Rattle.slotted_classes.specs.Kept.{text_bytes}
 use Rattle.slotted_rule_patterns.specs.PatternCode.{pattern_in}
 use Rattle.slotted_rule_patterns.specs.Values.{values_of}
+use Rattle.slotted_instances.proofs.Carrying.{carries-itself, left-carries}
 use Rattle.slotted_instances.specs.Refusals.{AreMissing, HavePassed}
 use Rattle.slotted_instances.specs.Uniting.{UnitesInstances}
 use Rattle.slotted_instances.proofs.Refusing.{left-extends, both-long, both-passed}
@@ -27,3 +28,9 @@ returns-clause-tested g c =
     let left : IsSome (pattern_in p) = search rules in
     let right : IsSome (pattern_in q) = search rules in
     subst (λ r. OnOk r (HavePassed s p q)) (sym c.failing.ensures.same) (both-passed s p q c.test_and_unite-answer.result left right c.test_and_unite-answer.ensures.left c.test_and_unite-answer.ensures.right)
+
+pub returns-clause-carries : goal.returns-clause-carries
+returns-clause-carries g c = left-carries g.N.Analysis.codes g.N.Analysis.meaning c.args.graph.now c.test_and_unite-answer.new.graph c.failing.new.graph c.test_and_unite-answer.ensures.carries c.failing.ensures.left
+
+pub returns-then-not-is_whole-clause-carries : goal.returns-then-not-is_whole-clause-carries
+returns-then-not-is_whole-clause-carries g c = inr (carries-itself g.N.Analysis.codes g.N.Analysis.meaning g.met.N.Analysis.is_merge c.args.graph.now)

@@ -1,8 +1,10 @@
+use Rattle.slotted_graph.proofs.Extending.{extends-takes, extends-then}
 use Rattle.std.proofs.Common.{inr}
 use Rattle.slotted_patterns.specs.View.{tree_of}
 use Rattle.slotted_proofs.specs.Equations.{to_applied}
 use Rattle.slotted_rule_patterns.specs.Values.{values_of}
 use Rattle.slotted_classes.specs.Kept.{text_bytes}
+use Rattle.slotted_instances.proofs.Carrying.{carries-on, carries-takes, later-carries, written-carries}
 use Rattle.slotted_instances.proofs.FilledValues.{filled-given, full-values-later, full-values-valid}
 use Rattle.slotted_instances.proofs.Growing.{graph-takes}
 use Rattle.slotted_instances.proofs.Parts.{known-later}
@@ -46,3 +48,43 @@ returns-clause-unites g c =
     (tree_of form c.args.a.now) (tree_of form c.args.b.now) c.in_ok-left.left c.in_ok-right.right (text_bytes c.args.text) c.requires.graph
     c.full_values.ensures.takes c.in_ok-filled.ensures.fills c.in_ok-filled.ensures.full c.in_ok-left.ensures.ok c.in_ok-right.ensures.ok
     c.union_quietly-answer.result c.is_failed.ensures.rests c.union_quietly-answer.ensures.fails.0 c.union_quietly-answer.ensures.union c.union_quietly-answer.ensures.text c.union_quietly-answer.ensures.table
+
+-- where the values could not be filled, slots were taken alone
+pub returns-in_err-filled-clause-carries : goal.returns-in_err-filled-clause-carries
+returns-in_err-filled-clause-carries g c =
+    inr (carries-takes g.N.Analysis.codes g.N.Analysis.meaning g.met.N.Analysis.is_merge c.args.graph.now c.full_values.new.graph c.full_values.ensures.takes)
+
+pub returns-in_err-left-clause-carries : goal.returns-in_err-left-clause-carries
+returns-in_err-left-clause-carries g c =
+    let g0 = c.args.graph.now in
+    let d = c.full_values.new.graph in
+    later-carries g.N.Analysis.codes g.N.Analysis.meaning g.met.N.Analysis.is_merge g0 d c.build_stored.new.graph (extends-takes g0 d c.full_values.ensures.takes)
+    (carries-takes g.N.Analysis.codes g.N.Analysis.meaning g.met.N.Analysis.is_merge g0 d c.full_values.ensures.takes) c.build_stored.ensures.carries
+
+pub returns-in_err-right-clause-carries : goal.returns-in_err-right-clause-carries
+returns-in_err-right-clause-carries g c =
+    let g0 = c.args.graph.now in
+    let d = c.full_values.new.graph in
+    let e = c.build_stored.new.graph in
+    let left = c.in_ok-left.ensures.ok.grows in
+    let taken = extends-takes g0 d c.full_values.ensures.takes in
+    let first = carries-on g.N.Analysis.codes g.N.Analysis.meaning g.met.N.Analysis.is_merge g0 d e taken
+        (carries-takes g.N.Analysis.codes g.N.Analysis.meaning g.met.N.Analysis.is_merge g0 d c.full_values.ensures.takes) left.graph.well c.build_stored.ensures.carries in
+    later-carries g.N.Analysis.codes g.N.Analysis.meaning g.met.N.Analysis.is_merge g0 e c.build_stored-2.new.graph (extends-then g0 d e taken left.extends) first c.build_stored-2.ensures.carries
+
+pub returns-clause-carries : goal.returns-clause-carries
+returns-clause-carries g c =
+    let g0 = c.args.graph.now in
+    let d = c.full_values.new.graph in
+    let e = c.build_stored.new.graph in
+    let f = c.build_stored-2.new.graph in
+    let h = c.union_quietly-answer.new.self in
+    let left = c.in_ok-left.ensures.ok.grows in
+    let right = c.in_ok-right.ensures.ok.grows in
+    let taken = extends-takes g0 d c.full_values.ensures.takes in
+    let start = carries-takes g.N.Analysis.codes g.N.Analysis.meaning g.met.N.Analysis.is_merge g0 d c.full_values.ensures.takes in
+    let first = carries-on g.N.Analysis.codes g.N.Analysis.meaning g.met.N.Analysis.is_merge g0 d e taken start left.graph.well c.build_stored.ensures.carries in
+    let there = extends-then g0 d e taken left.extends in
+    let both = carries-on g.N.Analysis.codes g.N.Analysis.meaning g.met.N.Analysis.is_merge g0 e f there first right.graph.well c.build_stored-2.ensures.carries in
+    later-carries g.N.Analysis.codes g.N.Analysis.meaning g.met.N.Analysis.is_merge g0 f h (extends-then g0 e f there right.extends) both
+    (written-carries g.N.Analysis.codes g.N.Analysis.meaning c.union_quietly-answer.result f h c.union_quietly-answer.ensures.fails.1 c.union_quietly-answer.ensures.carries)

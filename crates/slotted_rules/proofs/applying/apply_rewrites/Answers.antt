@@ -1,9 +1,13 @@
 -- The graph's measure before and after.
-use Rattle.std.proofs.Common.{◌≡◌, ◌∙◌, false, Result, Ok, ap, sym, subst}
-use Rattle.std.specs.Prelude.{IsErrAnd}
+use Rattle.std.proofs.Common.{◌≡◌, ◌∙◌, false, Result, Ok, ap, sym, subst, IfErr}
+use Rattle.std.specs.Prelude.{IsErrAnd, ◌⊎◌, IsTrue}
 use Rattle.slotted_slots.specs.declared.error.Error.{Error}
 use Rattle.slotted_slots.specs.Error.{IsShortage}
 use Rattle.slotted_operations.specs.Graph.{Graph}
+use Rattle.slotted_graph.specs.Analysed.{LowersData}
+use Rattle.slotted_rules.specs.Applying.{RefusesRules}
+use Rattle.slotted_languages.proofs.HandedOn.{handed_err}
+use Rattle.slotted_rules.proofs.LeftGraphs.{left-err, left-so}
 use Rattle.slotted_rules.proofs.AppliedRules.{not-failed-so, ok-well}
 use Rattle.slotted_rules.proofs.Progress.{progressed, same_measure}
 use Rattle.slotted_rules.proofs.applying.apply_rewrites.Goals as goal
@@ -19,3 +23,19 @@ returns-clause-changed g c =
     (not-failed-so c.args.graph.now.failed (sym c.is_failed.ensures.failed ∙ c.if-is_failed.false) c.progress-before.ensures.measure)
     (not-failed-so c.failing.new.graph.failed (ap (λ (x : Graph). x.failed) left ∙ well) c.progress.ensures.measure)
     c.ne.result c.ne.ensures
+
+pub returns-in_err-failing-clause-lowers : goal.returns-in_err-failing-clause-lowers
+returns-in_err-failing-clause-lowers g c = left-so (LowersData g.N.Analysis.codes g.N.Analysis.meaning c.args.graph.now) c.apply_and_modify-applied.new.graph c.failing.new.graph c.apply_and_modify-applied.result c.apply_and_modify-applied.ensures.lowers c.failing.ensures.short c.failing.ensures.other
+
+pub returns-clause-lowers : goal.returns-clause-lowers
+returns-clause-lowers g c = left-so (LowersData g.N.Analysis.codes g.N.Analysis.meaning c.args.graph.now) c.apply_and_modify-applied.new.graph c.failing.new.graph c.apply_and_modify-applied.result c.apply_and_modify-applied.ensures.lowers c.failing.ensures.short c.failing.ensures.other
+
+pub returns-in_err-failing-clause-refused : goal.returns-in_err-failing-clause-refused
+returns-in_err-failing-clause-refused g c =
+    let e = c.in_err-failing.field-0.0 in
+    let a = c.apply_and_modify-applied in
+    let i = c.failing.new.graph in
+    let Refused : Error → Graph → Type 0 = λ x h. RefusesRules g.R.RewriteT.searches g.R.RewriteT.gives_up g.R.RewriteT.applies g.R.RewriteT.breaks_off c.args.rules.now c.args.graph.now h x in
+    handed_err c.from_residual.result e c.from_residual.ensures.1 (λ x. IsTrue i.failed ⊎ Refused x i)
+    (subst (λ (r : Result _ Error). IfErr r (λ x. IsTrue i.failed ⊎ Refused x i)) c.in_err-failing.was
+    (left-err c.args.graph.now a.new.graph i a.result c.failing.result c.failing.ensures.same c.failing.ensures.short c.failing.ensures.other Refused a.ensures.refused))

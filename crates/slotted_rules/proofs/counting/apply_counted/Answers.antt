@@ -4,6 +4,7 @@ use Rattle.std.specs.Prelude.{IsTrue}
 use Rattle.slotted_graph.specs.Extension.{ExtendsTo}
 use Rattle.slotted_rules.specs.Applying.{AreRefusedBy, HasProgressed}
 use Rattle.slotted_rules.specs.Counting.{RefusesRule}
+use Rattle.slotted_graph.specs.Analysed.{LowersData}
 use Rattle.slotted_rules.proofs.Counted.{no-rule_fails}
 use Rattle.slotted_rules.proofs.LeftGraphs.{left-failed, left-fails, left-ok, left-so}
 use Rattle.slotted_rules.proofs.counting.apply_counted.Goals as goal
@@ -30,3 +31,6 @@ returns-clause-fails g c =
     left-fails c.args.graph.now c.count_turn-turn.new.graph c.failing.new.graph c.count_turn-turn.result c.failing.result c.failing.ensures.same c.failing.ensures.short c.failing.ensures.other
     (AreRefusedBy (RefusesRule form g.C.Cond.refuses) c.args.rules.now) (no-rule_fails form g.C.Cond.refuses (λ k s x. g.met.C.Cond.never_failed k s x) c.args.rules.now)
     c.count_turn-turn.ensures.fails c.count_turn-turn.ensures.err
+
+pub returns-clause-lowers : goal.returns-clause-lowers
+returns-clause-lowers g c = left-so (LowersData g.N.Analysis.codes g.N.Analysis.meaning c.args.graph.now) c.count_turn-turn.new.graph c.failing.new.graph c.count_turn-turn.result c.count_turn-turn.ensures.lowers c.failing.ensures.short c.failing.ensures.other

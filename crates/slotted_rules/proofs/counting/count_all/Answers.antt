@@ -12,6 +12,8 @@ use Rattle.slotted_rules.specs.Counting.{CanApplyRule, RefusesRule, UnitesRule}
 use Rattle.slotted_rules.specs.Written.{CanBeSearched}
 use Rattle.slotted_rules.specs.WrittenLaws.{apply-later, valid-later}
 use Rattle.slotted_patterns.specs.View.{tree_of}
+use Rattle.slotted_graph.proofs.Saying.{lowers-itself}
+use Rattle.slotted_rules.proofs.Lowering.{later-lowers}
 use Rattle.slotted_rules.proofs.AppliedRules.{not-failed, not-failed-so, ok-well, refused-one}
 use Rattle.slotted_rules.proofs.Counted.{counts-more, done-can, done-more, done-whole, none-done}
 use Rattle.slotted_rules.proofs.counting.count_all.Goals as goal
@@ -22,7 +24,7 @@ popped old new o x items is = items ∙ ap (λ p. option_to_list p ++ new) is
 pub loop-rule-init : goal.loop-rule-init
 loop-rule-init g c =
     let form = g.L.LanguageChildren.form in
-    ([], none-done (λ k. k.0) (UnitesRule form g.C.Cond.answers) (CanApplyRule form) c.args.rules.now c.args.found.items c.args.graph.now c.requires.well c.requires.can, c.requires.none)
+    ([], none-done (λ k. k.0) (UnitesRule form g.C.Cond.answers) (CanApplyRule form) c.args.rules.now c.args.found.items c.args.graph.now c.requires.well c.requires.can, c.requires.none, lowers-itself g.N.Analysis.codes g.N.Analysis.meaning g.met.N.Analysis.is_merge c.args.graph.now)
 
 pub count_one-requires-clause-valid : goal.count_one-requires-clause-valid
 count_one-requires-clause-valid g c =
@@ -70,6 +72,7 @@ loop-rule-preserved g c =
           c.pop_front.new.self.items k (popped c.loop-rule.left.items c.pop_front.new.self.items c.pop_front.result c.in-Some.next c.pop_front.ensures.items c.in-Some.is) c.loop-rule.invariant.0 c.args.graph.now c.loop-rule.graph
           c.loop-rule.invariant.1 (λ r found a b e can. apply-later (tree_of form r.left) found a b e can) h c.in_ok-count_one-in-Some.ensures.ok.1 (not-failed-so h.failed well c.count_one.ensures.extends) well,
       counts-more c.loop-rule.counts.items c.push.new.self.items c.loop-rule.invariant.0 k told c.loop-rule.invariant.2 c.in_ok-count_one-in-Some.ensures.ok.0 refl c.in_ok-push-in-Some.ensures.items,
+      not-failed-so h.failed well (later-lowers g.N.Analysis.codes g.N.Analysis.meaning g.met.N.Analysis.is_merge c.args.graph.now c.loop-rule.graph c.count_one.new.graph c.loop-rule.invariant.1.extends c.loop-rule.invariant.3 c.count_one.ensures.lowers),
     )
 
 pub returns-clause-ok : goal.returns-clause-ok
@@ -78,3 +81,12 @@ returns-clause-ok g c =
     let whole = done-whole (λ (p : List Values × ℕ). p.0) (UnitesRule form g.C.Cond.answers) (CanApplyRule form) c.args.rules.now c.loop-rule.rule-index c.loop-rule-test.false c.args.found.items c.loop-rule.left.items c.loop-rule.invariant.0
     c.args.graph.now c.loop-rule.graph c.loop-rule.invariant.1 in
     (c.loop-rule.invariant.0, whole.0, whole.1, c.loop-rule.invariant.2)
+
+pub returns-in_err-count_one-in-Some-clause-lowers : goal.returns-in_err-count_one-in-Some-clause-lowers
+returns-in_err-count_one-in-Some-clause-lowers g c = later-lowers g.N.Analysis.codes g.N.Analysis.meaning g.met.N.Analysis.is_merge c.args.graph.now c.loop-rule.graph c.count_one.new.graph c.loop-rule.invariant.1.extends c.loop-rule.invariant.3 c.count_one.ensures.lowers
+
+pub returns-in_err-push-in-Some-clause-lowers : goal.returns-in_err-push-in-Some-clause-lowers
+returns-in_err-push-in-Some-clause-lowers g c = later-lowers g.N.Analysis.codes g.N.Analysis.meaning g.met.N.Analysis.is_merge c.args.graph.now c.loop-rule.graph c.count_one.new.graph c.loop-rule.invariant.1.extends c.loop-rule.invariant.3 c.count_one.ensures.lowers
+
+pub returns-clause-lowers : goal.returns-clause-lowers
+returns-clause-lowers g c = inr c.loop-rule.invariant.3

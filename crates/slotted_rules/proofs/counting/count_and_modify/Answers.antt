@@ -1,6 +1,7 @@
 -- The rules lead to the graph in which classes are modified.
 use Rattle.std.proofs.Common.{◌≡◌, false, inl, inr}
 use Rattle.slotted_graph.proofs.Extending.{extends-then}
+use Rattle.slotted_rules.proofs.Lowering.{later-lowers}
 use Rattle.slotted_rules.proofs.AppliedRules.{not-failed-so, ok-well}
 use Rattle.slotted_rules.proofs.counting.count_and_modify.Goals as goal
 
@@ -24,3 +25,15 @@ returns-clause-extends g c =
       | inl failed ↦ inl failed
       | inr more ↦ inr (extends-then c.args.graph.now f c.modify_classes.new.graph (not-failed-so f.failed well c.search_and_count.ensures.extends) more)
     ]
+
+pub returns-in_err-modify_classes-clause-lowers : goal.returns-in_err-modify_classes-clause-lowers
+returns-in_err-modify_classes-clause-lowers g c =
+    let f = c.search_and_count.new.graph in
+    let well : f.failed ≡ false = ok-well _ f.failed c.search_and_count.result c.in_ok-counts.counts c.in_ok-counts.was c.search_and_count.ensures.fails in
+    later-lowers g.N.Analysis.codes g.N.Analysis.meaning g.met.N.Analysis.is_merge c.args.graph.now f c.modify_classes.new.graph (not-failed-so f.failed well c.search_and_count.ensures.extends) (not-failed-so f.failed well c.search_and_count.ensures.lowers) c.modify_classes.ensures.lowers
+
+pub returns-clause-lowers : goal.returns-clause-lowers
+returns-clause-lowers g c =
+    let f = c.search_and_count.new.graph in
+    let well : f.failed ≡ false = ok-well _ f.failed c.search_and_count.result c.in_ok-counts.counts c.in_ok-counts.was c.search_and_count.ensures.fails in
+    later-lowers g.N.Analysis.codes g.N.Analysis.meaning g.met.N.Analysis.is_merge c.args.graph.now f c.modify_classes.new.graph (not-failed-so f.failed well c.search_and_count.ensures.extends) (not-failed-so f.failed well c.search_and_count.ensures.lowers) c.modify_classes.ensures.lowers

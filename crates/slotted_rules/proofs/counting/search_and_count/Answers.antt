@@ -1,4 +1,4 @@
-use Rattle.std.proofs.Common.{◌≡◌, Result, Ok, IfErr, sym, subst, inl, inr}
+use Rattle.std.proofs.Common.{◌≡◌, Result, Ok, IfErr, sym, subst, inl, inr, false}
 use Rattle.std.specs.Prelude.{◌⊎◌, IsErrAnd, IsTrue}
 use Rattle.slotted_slots.specs.declared.error.Error.{Error}
 use Rattle.slotted_slots.specs.Error.{IsShortage}
@@ -10,6 +10,7 @@ use Rattle.slotted_graph.proofs.Extending.{extends-then}
 use Rattle.slotted_rules.specs.Applying.{AreRefusedBy}
 use Rattle.slotted_rules.specs.Counting.{RefusesRule, SearchesRule}
 use Rattle.slotted_rules.specs.WrittenLaws.{valid-later}
+use Rattle.slotted_rules.proofs.Lowering.{later-lowers}
 use Rattle.slotted_rules.proofs.AppliedRules.{not-failed-so, ok-well}
 use Rattle.slotted_rules.proofs.counting.search_and_count.Goals as goal
 
@@ -48,3 +49,15 @@ returns-clause-counts g c =
       by_applies = a.2;
       told = a.3;
     }
+
+pub returns-in_err-count_all-clause-lowers : goal.returns-in_err-count_all-clause-lowers
+returns-in_err-count_all-clause-lowers g c =
+    let f = c.search_all.new.graph in
+    let well : f.failed ≡ false = ok-well _ f.failed c.search_all.result c.in_ok-found.found c.in_ok-found.was c.search_all.ensures.fails in
+    later-lowers g.N.Analysis.codes g.N.Analysis.meaning g.met.N.Analysis.is_merge c.args.graph.now f c.count_all.new.graph (not-failed-so f.failed well c.search_all.ensures.extends) (not-failed-so f.failed well c.search_all.ensures.lowers) c.count_all.ensures.lowers
+
+pub returns-clause-lowers : goal.returns-clause-lowers
+returns-clause-lowers g c =
+    let f = c.search_all.new.graph in
+    let well : f.failed ≡ false = ok-well _ f.failed c.search_all.result c.in_ok-found.found c.in_ok-found.was c.search_all.ensures.fails in
+    later-lowers g.N.Analysis.codes g.N.Analysis.meaning g.met.N.Analysis.is_merge c.args.graph.now f c.count_all.new.graph (not-failed-so f.failed well c.search_all.ensures.extends) (not-failed-so f.failed well c.search_all.ensures.lowers) c.count_all.ensures.lowers

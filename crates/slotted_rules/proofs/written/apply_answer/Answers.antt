@@ -1,8 +1,9 @@
-use Rattle.std.proofs.Common.{List, [], sym, subst}
+use Rattle.std.proofs.Common.{List, [], sym, subst, inr}
 use Rattle.std.specs.Prelude.{slice_index_or}
 use Rattle.std.proofs.lemmas.List.Elements.{Contains-get_or}
 use Rattle.slotted_model_rules.specs.Conditions.{Values}
 use Rattle.slotted_graph.specs.Matching.{AreValidValues}
+use Rattle.slotted_instances.proofs.Carrying.{carries-itself}
 use Rattle.slotted_rules.proofs.written.apply_answer.Goals as goal
 
 pub apply_to-requires-clause-valid : goal.apply_to-requires-clause-valid
@@ -14,3 +15,6 @@ pub apply_to-requires-clause-whole : goal.apply_to-requires-clause-whole
 apply_to-requires-clause-whole g c =
     let found : List Values = c.args.found.now in
     c.requires.found.whole (slice_index_or found c.args.answer []) (Contains-get_or found c.args.answer [] c.requires.answer)
+
+pub returns-in_err-subst-clause-carries : goal.returns-in_err-subst-clause-carries
+returns-in_err-subst-clause-carries g c = inr (carries-itself g.N.Analysis.codes g.N.Analysis.meaning g.met.N.Analysis.is_merge c.args.graph.now)

@@ -1,26 +1,33 @@
 -- Each answer is applied in the graph that the ones before it left.
-use Rattle.std.proofs.Common.{ℕ, ◌+◌, refl, subst, sym, inl, inr, arith}
-use Rattle.std.specs.Prelude.{string_bytes}
+use Rattle.std.proofs.Common.{ℕ, ◌+◌, refl, subst, sym, inl, inr, arith, ◌≡◌, [], false}
+use Rattle.std.specs.Prelude.{string_bytes, ◌⊎◌, slice_index_or}
 use Rattle.slotted_patterns.specs.Tree.{PatternTree}
 use Rattle.slotted_patterns.specs.View.{tree_of}
 use Rattle.slotted_operations.specs.Graph.{Graph}
 use Rattle.slotted_rules.specs.Loops.{HasAppliedSome}
-use Rattle.slotted_rules.specs.Rewriting.{AreFromRule}
+use Rattle.slotted_rules.specs.Rewriting.{AreFromRule, BreaksOff, IsRefusedRewrite}
 use Rattle.slotted_rules.specs.WrittenLaws.{apply-later, valid-later}
-use Rattle.slotted_rules.proofs.Settling.{all-applied, none-applied, one-applied}
+use Rattle.slotted_instances.proofs.Carrying.{carries-itself, carries-on, later-carries}
+use Rattle.slotted_languages.proofs.HandedOn.{handed_err}
+use Rattle.slotted_slots.specs.Error.{IsShortage}
+use Rattle.slotted_rules.proofs.AppliedRules.{ok-well}
+use Rattle.slotted_rules.proofs.Settling.{all-applied, none-applied, one-applied, breaks-off, refused-rewrite}
 use Rattle.slotted_rules.proofs.written.apply_found.Goals as goal
 
 pub apply_answer-requires-clause-rule : goal.apply_answer-requires-clause-rule
-apply_answer-requires-clause-rule g c = valid-later g.L.LanguageChildren.form c.args.graph.now c.loop-answer.graph c.args.rule.now c.loop-answer.invariant.extends c.requires.rule
+apply_answer-requires-clause-rule g c = valid-later g.L.LanguageChildren.form c.args.graph.now c.loop-answer.graph c.args.rule.now c.loop-answer.invariant.so_far.extends c.requires.rule
 
 pub apply_answer-requires-clause-found : goal.apply_answer-requires-clause-found
 apply_answer-requires-clause-found g c =
-    apply-later (tree_of g.L.LanguageChildren.form c.args.rule.now.left) c.args.found.now c.args.graph.now c.loop-answer.graph c.loop-answer.invariant.extends c.requires.found
+    apply-later (tree_of g.L.LanguageChildren.form c.args.rule.now.left) c.args.found.now c.args.graph.now c.loop-answer.graph c.loop-answer.invariant.so_far.extends c.requires.found
 
 pub loop-answer-init : goal.loop-answer-init
 loop-answer-init g c =
     let form = g.L.LanguageChildren.form in
-    none-applied (g.C.Cond.answers c.args.rule.now.condition) (tree_of form c.args.rule.now.left) (tree_of form c.args.rule.now.right) (string_bytes c.args.rule.now.name) c.args.found.now c.args.graph.now c.requires.graph
+    record {
+      so_far = none-applied (g.C.Cond.answers c.args.rule.now.condition) (tree_of form c.args.rule.now.left) (tree_of form c.args.rule.now.right) (string_bytes c.args.rule.now.name) c.args.found.now c.args.graph.now c.requires.graph;
+      carries = carries-itself g.N.Analysis.codes g.N.Analysis.meaning g.met.N.Analysis.is_merge c.args.graph.now;
+    }
 
 pub returns-in_err-apply_answer-clause-origin : goal.returns-in_err-apply_answer-clause-origin
 returns-in_err-apply_answer-clause-origin g c =
@@ -29,7 +36,7 @@ returns-in_err-apply_answer-clause-origin g c =
     let q : PatternTree = tree_of form c.args.rule.now.right in
     elim (c.in_err-apply_answer.ensures.unchanged refl) [
       | inl failed ↦ inl failed
-      | inr same ↦ inr (subst (λ (h : Graph). AreFromRule (g.C.Cond.answers c.args.rule.now.condition) p q (string_bytes c.args.rule.now.name) c.args.found.now c.args.graph.now h) (sym same) c.loop-answer.invariant.origin)
+      | inr same ↦ inr (subst (λ (h : Graph). AreFromRule (g.C.Cond.answers c.args.rule.now.condition) p q (string_bytes c.args.rule.now.name) c.args.found.now c.args.graph.now h) (sym same) c.loop-answer.invariant.so_far.origin)
     ]
 
 pub loop-answer-preserved : goal.loop-answer-preserved
@@ -37,12 +44,49 @@ loop-answer-preserved g c =
     let form = g.L.LanguageChildren.form in
     let p : PatternTree = tree_of form c.args.rule.now.left in
     let q : PatternTree = tree_of form c.args.rule.now.right in
-    subst (λ (n : ℕ). HasAppliedSome (g.C.Cond.answers c.args.rule.now.condition) p q (string_bytes c.args.rule.now.name) c.args.found.now (c.loop-answer.answer + 1) (c.loop-answer.united + n) c.args.graph.now c.apply_answer.new.graph) (sym c.from.ensures)
-    (one-applied (g.C.Cond.answers c.args.rule.now.condition) p q (string_bytes c.args.rule.now.name) c.args.found.now
-    c.loop-answer.answer c.loop-answer.united (omega (arith, c.loop-answer-test.true, c.len-answer-end.ensures)) c.args.graph.now c.loop-answer.graph c.loop-answer.invariant c.apply_answer.new.graph c.in_ok-apply_answer.field-0 c.in_ok-apply_answer.ensures.applies)
+    let f = c.loop-answer.graph in
+    let h = c.apply_answer.new.graph in
+    let well : h.failed ≡ false = ok-well _ h.failed c.apply_answer.result c.in_ok-apply_answer.field-0 c.in_ok-apply_answer.was c.apply_answer.ensures.fails in
+    record {
+      so_far = subst (λ (n : ℕ). HasAppliedSome (g.C.Cond.answers c.args.rule.now.condition) p q (string_bytes c.args.rule.now.name) c.args.found.now (c.loop-answer.answer + 1) (c.loop-answer.united + n) c.args.graph.now c.apply_answer.new.graph) (sym c.from.ensures)
+          (one-applied (g.C.Cond.answers c.args.rule.now.condition) p q (string_bytes c.args.rule.now.name) c.args.found.now
+          c.loop-answer.answer c.loop-answer.united (omega (arith, c.loop-answer-test.true, c.len-answer-end.ensures)) c.args.graph.now c.loop-answer.graph c.loop-answer.invariant.so_far c.apply_answer.new.graph c.in_ok-apply_answer.field-0 c.in_ok-apply_answer.ensures.applies);
+      carries = carries-on g.N.Analysis.codes g.N.Analysis.meaning g.met.N.Analysis.is_merge c.args.graph.now f h c.loop-answer.invariant.so_far.extends c.loop-answer.invariant.carries well c.apply_answer.ensures.carries;
+    }
 
 pub returns-clause-applied : goal.returns-clause-applied
 returns-clause-applied g c =
     let form = g.L.LanguageChildren.form in
     all-applied (g.C.Cond.answers c.args.rule.now.condition) (tree_of form c.args.rule.now.left) (tree_of form c.args.rule.now.right) (string_bytes c.args.rule.now.name) c.args.found.now
-    c.loop-answer.answer c.loop-answer.united c.args.graph.now c.loop-answer.graph (omega (arith, c.loop-answer-test.false, c.len-answer-end.ensures)) c.loop-answer.invariant
+    c.loop-answer.answer c.loop-answer.united c.args.graph.now c.loop-answer.graph (omega (arith, c.loop-answer-test.false, c.len-answer-end.ensures)) c.loop-answer.invariant.so_far
+
+pub returns-in_err-apply_answer-clause-carries : goal.returns-in_err-apply_answer-clause-carries
+returns-in_err-apply_answer-clause-carries g c = later-carries g.N.Analysis.codes g.N.Analysis.meaning g.met.N.Analysis.is_merge c.args.graph.now c.loop-answer.graph c.apply_answer.new.graph c.loop-answer.invariant.so_far.extends c.loop-answer.invariant.carries c.apply_answer.ensures.carries
+
+pub returns-clause-carries : goal.returns-clause-carries
+returns-clause-carries g c = inr c.loop-answer.invariant.carries
+
+pub returns-in_err-apply_answer-clause-err : goal.returns-in_err-apply_answer-clause-err
+returns-in_err-apply_answer-clause-err g c =
+    let form = g.L.LanguageChildren.form in
+    let q : PatternTree = tree_of form c.args.rule.now.right in
+    let e = c.in_err-apply_answer.field-0.0 in
+    let refuses = g.C.Cond.refuses c.args.rule.now.condition in
+    handed_err c.from_residual.result e c.from_residual.ensures.1 (λ x. IsShortage x ⊎ IsRefusedRewrite refuses q x)
+    (refused-rewrite (g.C.Cond.answers c.args.rule.now.condition) refuses q (slice_index_or c.args.found.now c.loop-answer.answer []) c.loop-answer.graph e c.in_err-apply_answer.ensures.err)
+
+pub returns-in_err-apply_answer-clause-left : goal.returns-in_err-apply_answer-clause-left
+returns-in_err-apply_answer-clause-left g c =
+    let form = g.L.LanguageChildren.form in
+    let p : PatternTree = tree_of form c.args.rule.now.left in
+    let q : PatternTree = tree_of form c.args.rule.now.right in
+    let holds = g.C.Cond.answers c.args.rule.now.condition in
+    let refuses = g.C.Cond.refuses c.args.rule.now.condition in
+    let name = string_bytes c.args.rule.now.name in
+    let found = c.args.found.now in
+    let e = c.in_err-apply_answer.field-0.0 in
+    let f = c.loop-answer.graph in
+    let h = c.apply_answer.new.graph in
+    handed_err c.from_residual.result e c.from_residual.ensures.1 (λ x. IsShortage x ⊎ BreaksOff holds refuses p q name found c.args.graph.now h x)
+    (breaks-off holds refuses p q name found c.loop-answer.answer c.loop-answer.united (omega (arith, c.loop-answer-test.true, c.len-answer-end.ensures)) c.args.graph.now f c.loop-answer.invariant.so_far h e
+    (c.in_err-apply_answer.ensures.unchanged refl) (λ failed. c.in_err-apply_answer.ensures.fails failed) c.in_err-apply_answer.ensures.err)

@@ -1,7 +1,8 @@
 use Rattle.std.specs.Prelude.{string_bytes}
 use Rattle.slotted_patterns.specs.View.{tree_of}
-use Rattle.slotted_rules.specs.Rewriting.{AreFromRule}
-use Rattle.slotted_rules.proofs.LeftGraphs.{left-so}
+use Rattle.slotted_rules.specs.Rewriting.{AreFromRule, BreaksOff}
+use Rattle.slotted_instances.specs.Carried.{CarriesAlong}
+use Rattle.slotted_rules.proofs.LeftGraphs.{left-so, left-err}
 use Rattle.slotted_rules.proofs.written.apply_matches.Goals as goal
 
 pub returns-clause-origin : goal.returns-clause-origin
@@ -9,3 +10,14 @@ returns-clause-origin g c =
     let form = g.L.LanguageChildren.form in
     left-so (AreFromRule (g.C.Cond.answers c.args.rule.now.condition) (tree_of form c.args.rule.now.left) (tree_of form c.args.rule.now.right) (string_bytes c.args.rule.now.name) c.args.found.now c.args.graph.now)
     c.apply_found-applied.new.graph c.failing.new.graph c.apply_found-applied.result c.apply_found-applied.ensures.origin c.failing.ensures.short c.failing.ensures.other
+
+pub returns-clause-carries : goal.returns-clause-carries
+returns-clause-carries g c = left-so (CarriesAlong g.N.Analysis.codes g.N.Analysis.meaning c.args.graph.now) c.apply_found-applied.new.graph c.failing.new.graph c.apply_found-applied.result c.apply_found-applied.ensures.carries c.failing.ensures.short c.failing.ensures.other
+
+pub returns-clause-left : goal.returns-clause-left
+returns-clause-left g c =
+    let form = g.L.LanguageChildren.form in
+    let a = c.apply_found-applied in
+    left-err c.args.graph.now a.new.graph c.failing.new.graph a.result c.failing.result c.failing.ensures.same c.failing.ensures.short c.failing.ensures.other
+    (λ e h. BreaksOff (g.C.Cond.answers c.args.rule.now.condition) (g.C.Cond.refuses c.args.rule.now.condition) (tree_of form c.args.rule.now.left) (tree_of form c.args.rule.now.right) (string_bytes c.args.rule.now.name) c.args.found.now c.args.graph.now h e)
+    a.ensures.left

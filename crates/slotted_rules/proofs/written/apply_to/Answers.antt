@@ -1,8 +1,10 @@
-use Rattle.std.proofs.Common.{subst}
+use Rattle.std.proofs.Common.{subst, inl, inr}
 use Rattle.slotted_patterns.specs.Tree.{PatternTree}
 use Rattle.slotted_patterns.specs.View.{tree_of}
 use Rattle.slotted_rule_patterns.specs.Values.{values_of}
 use Rattle.std.specs.Prelude.{string_bytes}
+use Rattle.slotted_instances.proofs.Carrying.{carries-itself}
+use Rattle.slotted_instances.proofs.Answering.{if-err-mapped}
 use Rattle.slotted_rules.proofs.Settling.{if-asserted}
 use Rattle.slotted_rules.proofs.written.apply_to.Goals as goal
 
@@ -13,3 +15,18 @@ returns-clause-applies g c =
     let q : PatternTree = tree_of form c.args.rule.now.right in
     if-asserted (g.C.Cond.answers c.args.rule.now.condition) p q (string_bytes c.args.rule.now.name) (values_of c.args.subst.now) c.args.graph.now c.unite.new.graph c.unite.result
     (subst (g.C.Cond.answers c.args.rule.now.condition (values_of c.args.subst.now) c.args.graph.now) c.if-not-branch.false c.in_ok-holds.ensures.ok) c.unite.ensures.tested c.unite.ensures.unites
+
+pub returns-in_err-holds-clause-carries : goal.returns-in_err-holds-clause-carries
+returns-in_err-holds-clause-carries g c = inr (carries-itself g.N.Analysis.codes g.N.Analysis.meaning g.met.N.Analysis.is_merge c.args.graph.now)
+
+pub returns-clause-err : goal.returns-clause-err
+returns-clause-err g c =
+    let held = subst (g.C.Cond.answers c.args.rule.now.condition (values_of c.args.subst.now) c.args.graph.now) c.if-not-branch.false c.in_ok-holds.ensures.ok in
+    if-err-mapped c.unite.result c.unite.ensures.err
+    (λ e k. elim k [
+      | inl short ↦ inl short
+      | inr r ↦ inr (inr (held, r.0, r.1))
+    ])
+
+pub returns-then-not-branch-clause-carries : goal.returns-then-not-branch-clause-carries
+returns-then-not-branch-clause-carries g c = inr (carries-itself g.N.Analysis.codes g.N.Analysis.meaning g.met.N.Analysis.is_merge c.args.graph.now)

@@ -3,6 +3,7 @@ use Rattle.std.proofs.lemmas.List.Elements.{Contains-get_or}
 use Rattle.std.specs.Prelude.{slice_index_or}
 use Rattle.slotted_patterns.specs.View.{tree_of}
 use Rattle.slotted_rule_patterns.specs.Values.{values_of}
+use Rattle.slotted_instances.proofs.Carrying.{carries-itself}
 use Rattle.slotted_rules.proofs.UnitedAnswers.{union-refused, union-unchanged}
 use Rattle.slotted_rules.proofs.written.unite.Goals as goal
 
@@ -21,3 +22,6 @@ returns-clause-err g c =
     union-refused c.union_instantiations.result c.args.graph.now (values_of c.args.subst.now) (tree_of g.L.LanguageChildren.form c.args.rule.now.left) (tree_of g.L.LanguageChildren.form c.args.rule.now.right)
     c.requires.graph.well c.requires.whole c.requires.values c.requires.rule.none_lacking
     c.union_instantiations.ensures.failed c.union_instantiations.ensures.whole c.union_instantiations.ensures.only
+
+pub returns-in_err-name-clause-carries : goal.returns-in_err-name-clause-carries
+returns-in_err-name-clause-carries g c = inr (carries-itself g.N.Analysis.codes g.N.Analysis.meaning g.met.N.Analysis.is_merge c.args.graph.now)

@@ -6,6 +6,7 @@ use Rattle.slotted_rules.specs.Counting.{RefusesRule}
 use Rattle.slotted_rules.proofs.Counted.{no-rule_fails}
 use Rattle.slotted_rules.proofs.LeftGraphs.{left-failed, left-fails, left-ok, left-so}
 use Rattle.slotted_runs.specs.Counted.{TakesTurns}
+use Rattle.slotted_graph.specs.Analysed.{LowersData}
 use Rattle.slotted_runs.proofs.counted.run_counted.Goals as goal
 
 pub returns-clause-turns : goal.returns-clause-turns
@@ -30,3 +31,6 @@ returns-clause-fails g c =
     left-fails c.args.graph.now c.take_counted-taken.new.graph c.failing.new.graph c.take_counted-taken.result c.failing.result c.failing.ensures.same c.failing.ensures.short c.failing.ensures.other
     (AreRefusedBy (RefusesRule form g.C.Cond.refuses) c.args.rules.now) (no-rule_fails form g.C.Cond.refuses (λ k s x. g.met.C.Cond.never_failed k s x) c.args.rules.now)
     c.take_counted-taken.ensures.fails c.take_counted-taken.ensures.err
+
+pub returns-clause-lowers : goal.returns-clause-lowers
+returns-clause-lowers g c = left-so (LowersData g.N.Analysis.codes g.N.Analysis.meaning c.args.graph.now) c.take_counted-taken.new.graph c.failing.new.graph c.take_counted-taken.result c.take_counted-taken.ensures.lowers c.failing.ensures.short c.failing.ensures.other

@@ -11,6 +11,8 @@ use Rattle.slotted_rules.specs.Applying.{AreModified, AreRefusedBy}
 use Rattle.slotted_rules.specs.Counting.{RefusesRule}
 use Rattle.slotted_rules.specs.WrittenLaws.{valid-later}
 use Rattle.slotted_rules.proofs.AppliedRules.{not-failed, not-failed-so, ok-well}
+use Rattle.slotted_rules.proofs.Lowering.{later-lowers}
+use Rattle.slotted_graph.proofs.Saying.{lowers-itself}
 use Rattle.slotted_runs.proofs.CountedTurns.{at-limit, no-turns, turn-added, turn-last}
 use Rattle.slotted_runs.proofs.counted.take_counted.Goals as goal
 
@@ -23,6 +25,7 @@ pub loop-alloc-init : goal.loop-alloc-init
 loop-alloc-init g c = record {
   well = c.requires.well;
   extends = extends-itself c.args.graph.now;
+  lowers = lowers-itself g.N.Analysis.codes g.N.Analysis.meaning g.met.N.Analysis.is_merge c.args.graph.now;
   within = omega (arith, ap length c.new-turns.ensures.items);
   turns = no-turns g.L.LanguageChildren.form g.C.Cond.answers c.args.rules.now (AreModified g.N.Analysis.codes g.N.Analysis.meaning g.N.Analysis.may_ask g.N.Analysis.modifies) c.args.turn_limit c.args.graph.now c.new-turns.result.items c.new-turns.ensures.items;
 }
@@ -69,7 +72,17 @@ loop-alloc-preserved g c =
     record {
       well = well;
       extends = extends-then c.args.graph.now c.loop-alloc.graph h c.loop-alloc.invariant.extends more;
+      lowers = not-failed-so h.failed well (later-lowers g.N.Analysis.codes g.N.Analysis.meaning g.met.N.Analysis.is_merge c.args.graph.now c.loop-alloc.graph c.apply_counted.new.graph c.loop-alloc.invariant.extends c.loop-alloc.invariant.lowers c.apply_counted.ensures.lowers);
       within = omega (arith, c.loop-alloc-test.true, c.len.ensures, ap length c.in_ok-push.ensures.items, length-append c.loop-alloc.turns.items (c.in_ok-turn.turn ∷ []));
       turns = turn-added g.L.LanguageChildren.form g.C.Cond.answers c.args.rules.now (AreModified g.N.Analysis.codes g.N.Analysis.meaning g.N.Analysis.may_ask g.N.Analysis.modifies) c.args.turn_limit c.args.graph.now c.loop-alloc.turns.items c.push.new.self.items c.loop-alloc.graph h c.in_ok-turn.turn
           c.loop-alloc.invariant.turns c.in_ok-turn.ensures.modified c.in_ok-turn.ensures.changed c.in_ok-push.ensures.items c.if-not-changed.false;
     }
+
+pub returns-in_err-turn-clause-lowers : goal.returns-in_err-turn-clause-lowers
+returns-in_err-turn-clause-lowers g c = later-lowers g.N.Analysis.codes g.N.Analysis.meaning g.met.N.Analysis.is_merge c.args.graph.now c.loop-alloc.graph c.apply_counted.new.graph c.loop-alloc.invariant.extends c.loop-alloc.invariant.lowers c.apply_counted.ensures.lowers
+
+pub returns-in_err-push-clause-lowers : goal.returns-in_err-push-clause-lowers
+returns-in_err-push-clause-lowers g c = later-lowers g.N.Analysis.codes g.N.Analysis.meaning g.met.N.Analysis.is_merge c.args.graph.now c.loop-alloc.graph c.apply_counted.new.graph c.loop-alloc.invariant.extends c.loop-alloc.invariant.lowers c.apply_counted.ensures.lowers
+
+pub returns-then-not-changed-clause-lowers : goal.returns-then-not-changed-clause-lowers
+returns-then-not-changed-clause-lowers g c = later-lowers g.N.Analysis.codes g.N.Analysis.meaning g.met.N.Analysis.is_merge c.args.graph.now c.loop-alloc.graph c.apply_counted.new.graph c.loop-alloc.invariant.extends c.loop-alloc.invariant.lowers c.apply_counted.ensures.lowers

@@ -1,4 +1,4 @@
-use Rattle.std.proofs.Common.{◌≡◌, inl, inr, ap, sym, ◌∙◌, Err, rules}
+use Rattle.std.proofs.Common.{◌≡◌, inl, inr, ap, sym, ◌∙◌, Err, rules, refl}
 use Rattle.slotted_slots.specs.Error.{IsShortage}
 use Rattle.slotted_slots.specs.declared.error.Error.TheVariants.{Failed, UnknownClass}
 use Rattle.std.specs.Prelude.{IsTrue}
@@ -9,6 +9,7 @@ use Rattle.slotted_proofs.specs.Equations.{to_applied}
 use Rattle.slotted_costs.specs.Costs.{costs_by}
 use Rattle.slotted_costs.specs.Size.{size_cost}
 use Rattle.slotted_graph.proofs.Extending.{extends-takes}
+use Rattle.slotted_instances.proofs.Carrying.{carried-along, carries-itself, carries-takes, carries-then, later-carries}
 use Rattle.slotted_instances.proofs.Answering.{ok-mapped}
 use Rattle.slotted_instances.proofs.Growing.{full-builds}
 use Rattle.slotted_instances.proofs.StoredMethods.{added-builds, entry-found, extends-from, extracted-answers, replaced-extends}
@@ -96,3 +97,22 @@ returns-clause-extends g c =
     let well : IsTrue f.failed → ⊥ = λ failed. false≢true (c.in_ok-body.ensures.fails.0 failed) in
     let builds = added-builds g0 e f c.requires.graph c.least_term.ensures.takes c.in_ok-body.ensures.extends c.in_ok-body.ensures.adds c.add_syn_expr_quietly.ensures.more c.is_failed.ensures.rests well in
     extends-from g0 f c.replaced.new.graph builds (replaced-extends f c.replaced.new.graph (to_applied c.args.x) (to_applied c.args.t) (to_applied c.in_ok-body.body) c.replaced.result c.replaced.ensures.ok c.replaced.ensures.err)
+
+pub returns-in_err-terms-clause-carries : goal.returns-in_err-terms-clause-carries
+returns-in_err-terms-clause-carries g c = inr (carries-itself g.N.Analysis.codes g.N.Analysis.meaning g.met.N.Analysis.is_merge c.args.graph.now)
+
+pub returns-in_err-term-clause-carries : goal.returns-in_err-term-clause-carries
+returns-in_err-term-clause-carries g c = inr (carries-takes g.N.Analysis.codes g.N.Analysis.meaning g.met.N.Analysis.is_merge c.args.graph.now c.least_term.new.self c.least_term.ensures.takes)
+
+pub returns-in_err-body-clause-carries : goal.returns-in_err-body-clause-carries
+returns-in_err-body-clause-carries g c = inl (c.in_err-body.ensures.fails.1 refl)
+
+pub returns-clause-carries : goal.returns-clause-carries
+returns-clause-carries g c =
+    let g0 = c.args.graph.now in
+    let e = c.least_term.new.self in
+    let f = c.add_syn_expr_quietly.new.self in
+    let well : IsTrue f.failed → ⊥ = λ failed. false≢true (c.in_ok-body.ensures.fails.0 failed) in
+    let builds = added-builds g0 e f c.requires.graph c.least_term.ensures.takes c.in_ok-body.ensures.extends c.in_ok-body.ensures.adds c.add_syn_expr_quietly.ensures.more c.is_failed.ensures.rests well in
+    let kept = carries-then g.N.Analysis.codes g.N.Analysis.meaning g.met.N.Analysis.is_merge g0 e f (extends-takes g0 e c.least_term.ensures.takes) (carries-takes g.N.Analysis.codes g.N.Analysis.meaning g.met.N.Analysis.is_merge g0 e c.least_term.ensures.takes) (carried-along g.N.Analysis.codes g.N.Analysis.meaning e f c.in_ok-body.ensures.carries) in
+    later-carries g.N.Analysis.codes g.N.Analysis.meaning g.met.N.Analysis.is_merge g0 f c.replaced.new.graph builds.grows.extends kept c.replaced.ensures.carries

@@ -4,6 +4,7 @@ use Rattle.slotted_proofs.specs.Equations.{to_applied}
 use Rattle.slotted_graph.specs.Extension.{ExtendsTo}
 use Rattle.slotted_graph.proofs.CallerLemmas.{full-valid}
 use Rattle.slotted_graph.proofs.Extending.{extends-united}
+use Rattle.slotted_instances.proofs.Carrying.{carried-along, carries-for}
 use Rattle.slotted_own_rule_lines.proofs.own_methods.AssertingOwnSubst.subst.Goals as goal
 
 pub union_quietly-requires-clause-left : goal.union_quietly-requires-clause-left
@@ -20,3 +21,6 @@ returns-clause-valid g c =
 pub returns-clause-extends : goal.returns-clause-extends
 returns-clause-extends g c =
     inr (extends-united c.args.graph.now c.union_quietly.new.self c.args.x c.args.t None c.in_ok-union_quietly.field-0 c.in_ok-union_quietly.ensures.union c.in_ok-union_quietly.ensures.text c.in_ok-union_quietly.ensures.table)
+
+pub returns-clause-carries : goal.returns-clause-carries
+returns-clause-carries g c = inr (carries-for g.N.Analysis.codes g.N.Analysis.meaning {P = Unit {0}} c.args.graph.now c.union_quietly.new.self (λ k. tt) (carried-along g.N.Analysis.codes g.N.Analysis.meaning c.args.graph.now c.union_quietly.new.self c.in_ok-union_quietly.ensures.carries))

@@ -1,0 +1,8 @@
+use Rattle.slotted_instances.proofs.Carrying.{failed-or-lowers}
+use Rattle.slotted_rules.proofs.counting.count_one.Goals as goal
+
+pub returns-in_err-united-clause-lowers : goal.returns-in_err-united-clause-lowers
+returns-in_err-united-clause-lowers g c = failed-or-lowers g.N.Analysis.codes g.N.Analysis.meaning c.args.graph.now c.apply_matches.new.graph c.apply_matches.ensures.carries
+
+pub returns-clause-lowers : goal.returns-clause-lowers
+returns-clause-lowers g c = failed-or-lowers g.N.Analysis.codes g.N.Analysis.meaning c.args.graph.now c.apply_matches.new.graph c.apply_matches.ensures.carries
