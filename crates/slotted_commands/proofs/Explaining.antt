@@ -31,7 +31,7 @@ popped old new e pops =
     let taken : take (string_len old - 1) (string_bytes old) ≡ xs = (λ i. take (last i) (e.1 i)) ∙ take-append_seam xs (10 ∷ []) in
     e.1 ∙ ap (λ l. l ++ 10 ∷ []) (sym (pops (omega (arith, len, all)) (omega (arith, feed)) ∙ taken))
 
-not_shortage : (e : Error) → IsShortage e → e ≢ NotEqual
+pub not_shortage : (e : Error) → IsShortage e → e ≢ NotEqual
 not_shortage e s n = elim s [ inl m ↦ cc | inr o ↦ cc ]
 
 -- printing that was refused
@@ -45,7 +45,7 @@ printing_refused g h p (Err y) e is sound was full only takes count =
 
 module _ (r h : Graph) (t u : Term) (more : KnowsMore r.table h.table) (takes : MakesAtMost (term_slots t + term_slots u) r.table h.table) (adds : IsTrue h.failed ⊎ AddsTerms r.image h.image)
     (files : IsTrue h.failed ⊎ FilesOnlyTerms r h t u) (keeps : IsTrue h.failed ⊎ KeepsKnown r h t u) where
-  adds_both : ¬ IsTrue h.failed → AddsBothTerms r t u h
+  pub adds_both : ¬ IsTrue h.failed → AddsBothTerms r t u h
   adds_both well = record {
     sound = not_true h.failed well;
     adds = elim adds [ inl f ↦ absurd (well f) | inr a ↦ a ];

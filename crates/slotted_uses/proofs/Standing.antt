@@ -1,44 +1,23 @@
--- Which terms handles stand for after another term was added, what is asserted then, and what an answered question says of them.
-use Rattle.std.proofs.Common.{◌≡◌, ◌∙◌, ◌++◌, ℕ, zero, suc, List, [], ◌∷◌, ap, subst, sym}
-use Rattle.std.specs.Prelude.{Bool, true, false, IfOk, OnOk, Result, Ok, Err, Option, None, Some, if◌then◌else◌, nat_eq, slice_get}
+-- Which terms the handles of a question stand for, and what an answered question says of them.
+use Rattle.std.proofs.Common.{◌≡◌, ◌∙◌, ℕ, List, ap, subst, sym}
+use Rattle.std.specs.Prelude.{Bool, IfOk, OnOk, Option, Result, Ok, Err, Some}
 use Rattle.slotted_slots.specs.Syntax.{Element}
 use Rattle.slotted_theory.specs.Term.{Term}
 use Rattle.slotted_nodes.specs.Form.{Form}
-use Rattle.slotted_model.proofs.Data.Options.{None-Some, Some-same}
-use Rattle.slotted_operations.specs.Image.{asserted_in}
+use Rattle.slotted_model.proofs.Data.Options.{Some-same}
 use Rattle.slotted_workspace.specs.Asked.{AddsTerm, ChangesGraph, OfBoth}
+use Rattle.slotted_workspace.specs.Saturating.{HasRulesRun}
 use Rattle.slotted_workspace.specs.Spaces.{Space, term_at}
 use Rattle.slotted_workspace.specs.declared.handle.Handle.{Handle}
 use Rattle.slotted_workspace.specs.declared.running.Limits.{Limits}
-use Rattle.slotted_uses.specs.Questions.{AddsBoth, AnswersQuestion, HasRulesRun, Judges}
+use Rattle.slotted_workspace.proofs.Handles.{asserts-nothing, stands-changed, stands-later}
+use Rattle.slotted_uses.specs.Questions.{AddsBoth, AnswersQuestion, Judges}
 use Rattle.slotted_uses.specs.declared.question.Verdict.{Verdict}
-
-get-first : {A : Type 0} (xs ys : List A) (i : ℕ) (x : A) → slice_get xs i ≡ Some x → slice_get (xs ++ ys) i ≡ Some x
-get-first [] ys i x e = absurd (None-Some x e)
-get-first (y ∷ xs) ys zero x e = e
-get-first (y ∷ xs) ys (suc i) x e = get-first xs ys i x e
-
-chosen-later : {A : Type 0} (b : Bool) (o p : Option A) (x : A) → (o ≡ Some x → p ≡ Some x) → (if b then o else None) ≡ Some x → (if b then p else None) ≡ Some x
-chosen-later true o p x later e = later e
-chosen-later false o p x later e = absurd (None-Some x e)
-
--- with more terms it stands for the same one
-pub stands-later : (s v : Space) (h : Handle) (t u : Term) → v.number ≡ s.number → v.terms ≡ s.terms ++ u ∷ [] → term_at s h ≡ Some t → term_at v h ≡ Some t
-stands-later s v h t u number terms e =
-    (λ i. if nat_eq h.workspace (number i) then slice_get (terms i) h.index else None)
-    ∙ chosen-later (nat_eq h.workspace s.number) (slice_get s.terms h.index) (slice_get (s.terms ++ u ∷ []) h.index) t (get-first s.terms (u ∷ []) h.index t) e
-
--- and so it does where the graph alone changes
-pub stands-changed : (s v : Space) (h : Handle) (t : Term) → ChangesGraph s v → term_at s h ≡ Some t → term_at v h ≡ Some t
-stands-changed s v h t only e = subst (λ (x : Space). term_at x h ≡ Some t) (sym only) e
 
 -- of an answer P and K, of which Q follows
 pub ok-with : {T E : Type 0} (r : Result T E) (K : Type 0) (P Q : T → Type 0) → ((x : T) → K → P x → Q x) → OnOk r K → IfOk r P → IfOk r Q
 ok-with (Ok x) K P Q f k p = f x k p
 ok-with (Err e) K P Q f k p = p
-
-pub asserts-nothing : (read : List Element → Option Form) (s v : Space) (text : List ℕ) (h : Handle) → AddsTerm read s v text h → asserted_in v.graph.image ≡ asserted_in s.graph.image
-asserts-nothing read s v text h a = a.adds.gains.adds.asserted ∙ ap asserted_in a.adds.writes.only.image
 
 module _ (read : List Element → Option Form) (s between both : Space) (left right : List ℕ) (first second : Handle) (a : AddsTerm read s between left first) (b : AddsTerm read between both right second) where
   abbrev pub both-added : AddsBoth read s both left right first second

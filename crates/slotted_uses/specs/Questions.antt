@@ -1,15 +1,11 @@
 -- What a question about two terms is answered with, and what is asserted then.
 --     NeverFollows g t u                  the terms t and u are derivable from no named equations that are the asserted list
---     is_saturated r                      a run that stopped for the reason r has ended saturated
---     RunsRules form limits s v rules e   these rules were run from s to v, each new asserted equation comes from one of them, and e says whether the run ended saturated
---     HasRulesRun form limits s v e       so it is of some rules that are those of the workspace
 --     Judges written g h e t u x          the verdict x on two terms in the graph g, which is h then
 --     ProofRefused written g h t u e      the terms are equal, and their proof is not made or not printed; or the graph had failed
 --     AddsBoth read s one both ..         the terms of two texts are added, which asserts nothing
 --     AnswersQuestion ..                  both terms are added, the rules run, and then the terms are judged
 --     QuestionRefused ..                  one of these is refused
-use Rattle.std.specs.Prelude.{◌≡◌, ◌⊎◌, ℕ, List, map, Bool, true, false, Option, IsTrue, String}
-use Rattle.std.specs.declared.alloc.Global.{Global}
+use Rattle.std.specs.Prelude.{◌≡◌, ◌⊎◌, ℕ, List, map, Bool, false, Option, IsTrue}
 use Rattle.slotted_slots.specs.declared.error.Error.{Error}
 use Rattle.slotted_slots.specs.Syntax.{Element}
 use Rattle.slotted_theory.specs.Term.{Term}
@@ -18,15 +14,9 @@ use Rattle.slotted_nodes.specs.Form.{Form}
 use Rattle.slotted_operations.specs.Explaining.{FindsApart}
 use Rattle.slotted_operations.specs.Graph.{Graph}
 use Rattle.slotted_operations.specs.Image.{AreClosed, Image, asserted_in}
-use Rattle.slotted_rules.specs.RuleOrigins.{AreFromRules}
-use Rattle.slotted_rules.specs.TreeAnswers.{AnswersTree}
-use Rattle.slotted_rules.specs.declared.condition_tree.CondTree.{CondTree}
-use Rattle.slotted_rules.specs.declared.rewrite.Rewrite.{Rewrite}
-use Rattle.slotted_runs.specs.declared.report.Report.{Report}
-use Rattle.slotted_runs.specs.declared.report.StopReason.{StopReason}
-use Rattle.slotted_runs.specs.declared.report.StopReason.TheVariants.{Saturated, IterationLimit, TimeLimit, NodeLimit, Other}
 use Rattle.slotted_workspace.specs.Asked.{AddRefused, AddsTerm, ChangesGraph, ExplainRefused, ExplainsTerms, FollowsIn, HadFailed, Refuses, RefusesBoth}
-use Rattle.slotted_workspace.specs.Runs.{HasRun, OfRules, RunRefused}
+use Rattle.slotted_workspace.specs.Runs.{OfRules, RunRefused}
+use Rattle.slotted_workspace.specs.Saturating.{HasRulesRun}
 use Rattle.slotted_workspace.specs.Spaces.{Space}
 use Rattle.slotted_workspace.specs.declared.error.WorkspaceError.{WorkspaceError}
 use Rattle.slotted_workspace.specs.declared.handle.Handle.{Handle}
@@ -36,22 +26,6 @@ use Rattle.slotted_uses.specs.declared.question.Verdict.TheVariants.{Yes, No, St
 
 abbrev pub NeverFollows : Image → Term → Term → Type 0
 NeverFollows g t u = (E : List (Term × Term)) → map nameless_pair E ≡ asserted_in g → ¬ Derives E t u
-
-abbrev pub is_saturated : StopReason (String Global) → Bool
-is_saturated Saturated = true
-is_saturated IterationLimit = false
-is_saturated TimeLimit = false
-is_saturated NodeLimit = false
-is_saturated (Other reason) = false
-
-pub record RunsRules {L : Type 0} (form : L → Form) (limits : Limits) (s v : Space) (rules : List (Rewrite L CondTree)) (ended : Bool) : Type 0 where
-  pub report : Report (String Global)
-  pub run : HasRun form rules limits.turns limits.nodes s.graph v.graph report
-  pub origins : AreFromRules form (λ c values _. AnswersTree c values) rules s.graph v.graph
-  pub ends : ended ≡ is_saturated report.stop_reason
-
-abbrev pub HasRulesRun : {L : Type 0} → (L → Form) → Limits → Space → Space → Bool → Type 0
-HasRulesRun form limits s v ended = OfRules form s (λ rules. RunsRules form limits s v rules ended)
 
 -- a yes has a proof; a no says that nothing asserted makes the terms equal, after rules that ended; else the graph finds them different so far, and
 -- the rules did not end, or a symmetry is open

@@ -1,12 +1,9 @@
 //! Questions: whether two terms are equal by what was asserted, and by the rules.
-ghost use Rattle.std.specs.Prelude.{◌≡◌, IfOk, IfErr, OnOk};
-ghost use Rattle.slotted_workspace.specs.Asked.{ChangesGraph, OfBoth, Refuses, RefusesBoth};
-ghost use Rattle.slotted_workspace.specs.Runs.{OfRules, RunRefused};
-ghost use Rattle.slotted_uses.specs.Questions as questions;
-ghost use Rattle.slotted_uses.specs.Questions.{AnswersQuestion, HasRulesRun, Judges, ProofRefused, QuestionRefused};
+ghost use Rattle.std.specs.Prelude.{IfOk, IfErr, OnOk};
+ghost use Rattle.slotted_workspace.specs.Asked.{ChangesGraph, OfBoth, RefusesBoth};
+ghost use Rattle.slotted_uses.specs.Questions.{AnswersQuestion, Judges, ProofRefused, QuestionRefused};
 
 use slotted_languages::Language;
-use slotted_runs::StopReason;
 use slotted_terms::expr::printing::Printable;
 use slotted_workspace::{Handle, Limits, Workspace, WorkspaceError};
 
@@ -21,30 +18,6 @@ pub enum Verdict {
     Stopped,
     /// A symmetry is open, so that a no would say nothing.
     Open,
-}
-
-// Returns whether a run that stopped for this reason has ended saturated.
-fn is_saturated(reason: &StopReason) -> bool
-    ensures { result ≡ questions.is_saturated reason.now }
-{
-    match reason {
-        StopReason::Saturated => true,
-        _ => false,
-    }
-}
-
-/// Runs the rules. Returns whether they ended before a limit was passed.
-pub fn saturate<L: Language>(
-    workspace: &mut Workspace<L>,
-    limits: Limits,
-) -> Result<bool, WorkspaceError>
-    ensures ok { IfOk result (HasRulesRun L.form limits workspace.old workspace.new) }
-    ensures rest { OnOk result (ChangesGraph workspace.old workspace.new) }
-    ensures err { IfErr result (Refuses workspace.old workspace.new (λ e. OfRules L.form workspace.old
-        (λ rules. RunRefused L.form rules limits.turns limits.nodes workspace.old.graph workspace.new.graph e))) }
-{
-    let report = workspace.run(limits)?;
-    Ok(is_saturated(&report.stop_reason))
 }
 
 /// Returns the verdict on two terms, where `ended` says whether the rules ended.
@@ -88,6 +61,6 @@ pub fn ask<L: Printable>(
 {
     let first = workspace.add(left)?;
     let second = workspace.add(right)?;
-    let ended = saturate(workspace, limits)?;
+    let ended = workspace.saturate(limits)?;
     judge(workspace, first, second, ended)
 }

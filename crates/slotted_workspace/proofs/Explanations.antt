@@ -1,6 +1,6 @@
 -- What an explanation of two kept terms says of them.
 use Rattle.std.proofs.Common.{◌≡◌, ◌⊎◌, ◌↔◌, ◌∙◌, ℕ, List, Result, Ok, Err, IfErr, IsErrOf, ap, refl, sym, subst, inl, inr}
-use Rattle.std.specs.Prelude.{◌+◌, Bool, true, false, IsErr, IsTrue, String, is_some, string_bytes}
+use Rattle.std.specs.Prelude.{◌+◌, Bool, true, false, IsErr, IsTrue, OnOk, String, is_some, string_bytes}
 use Rattle.std.specs.declared.alloc.Global.{Global}
 use Rattle.std.proofs.lemmas.Bool.{false≢true}
 use Rattle.slotted_slots.specs.declared.error.Error.{Error}
@@ -17,13 +17,15 @@ use Rattle.slotted_operations.specs.Explaining.{AddsTerms, Explains, FilesOnlyTe
 use Rattle.slotted_operations.specs.Graph.{Graph, MakesAtMost, OnlyTakesSlots}
 use Rattle.slotted_operations.specs.Image.{Image, asserted_in}
 use Rattle.slotted_operations.specs.Places.{term_slots}
+use Rattle.slotted_explain.specs.Chain.{ChainRunsOut, MakesForChain}
 use Rattle.slotted_explain.specs.Printed.{IsProofText, MakesForProof, ProofRunsOut}
 use Rattle.slotted_graph.specs.Extension.{ExtendsTo}
 use Rattle.slotted_graph.specs.States.{IsGraph}
 use Rattle.slotted_graph.proofs.Extending.{extends-added, extends-takes, extends-then}
 use Rattle.slotted_commands.specs.Explained.{Proves, printing_ran_out}
-use Rattle.slotted_commands.proofs.Explaining.{explanation_refused, printing_refused}
-use Rattle.slotted_workspace.specs.Asked.{ExplainRefused, ExplainsTerms, FollowsIn}
+use Rattle.slotted_commands.proofs.Explaining.{adds_both, explanation_refused, not_shortage, printing_refused}
+use Rattle.slotted_workspace.specs.Asked.{ChainRefused, ChainsTerms, ExplainRefused, ExplainsTerms, FollowsIn, are_apart, chain_ran_out, proof_ran_out}
+use Rattle.slotted_workspace.specs.Asked as asked
 use Rattle.slotted_workspace.specs.Keeping.{IsKept}
 use Rattle.slotted_workspace.specs.declared.kept.Kept.{Kept}
 use Rattle.slotted_workspace.proofs.Saying.{entry-holds, follows, terms-equal}
@@ -51,6 +53,28 @@ module _ (g k : Graph) (t u : Term) (more : KnowsMore g.table k.table) (takes : 
       by true f = inl (f, stays f, ap (error_or Failed) (failed.1 f))
       by false well = inr (well, explanation_refused g k t u more takes adds files keeps {A = A} written (Err e) e refl (λ f. false≢true (sym well ∙ f)) failed.0 apart full fails only)
 
+  pub chain-not_made : {A : Type 0} (e : Error) → (IsErrOf {T = A} (Err e) Failed ↔ IsTrue g.failed) → (IsTrue g.failed → k ≡ g) → (IsErrOf {T = A} (Err e) NotEqual → FindsApart k.image t u) → (IsErrOf {T = A} (Err e) OutOfSlots → RunsOutForTerms g.image t u g.table k.table)
+      → (IsTrue k.failed ↔ (IsErr {T = A} (Err e) × ¬ IsErrOf {T = A} (Err e) NotEqual)) → (e ≡ Failed) ⊎ (e ≡ NotEqual) ⊎ IsShortage e → ChainRefused g k t u e
+  chain-not_made {A} e failed stays apart full fails only = by g.failed refl
+    where
+      ended : g.failed ≡ false → (e ≡ Failed) ⊎ (e ≡ NotEqual) ⊎ IsShortage e → ChainRefused g k t u e
+      ended well (inl f) = absurd (false≢true (sym well ∙ failed.0 (ap Err f)))
+      ended well (inr (inl n)) = are_apart well n (record { added = adds_both g k t u more takes adds files keeps (λ f. (fails.0 f).1 (ap Err n)); apart = apart (ap Err n) })
+      ended well (inr (inr s)) = proof_ran_out well (record {
+        failed = fails.1 (refl, λ (n : Err e ≡ Err NotEqual). not_shortage e s (ap (error_or Failed) n));
+        shortage = s;
+        cause = λ q. full (ap Err q);
+        more = more;
+      })
+
+      by : (b : Bool) → g.failed ≡ b → ChainRefused g k t u e
+      by true f = asked.ChainRefused.had_failed (f, stays f, ap (error_or Failed) (failed.1 f))
+      by false well = ended well only
+
+pub on-ok : {T E P : Type 0} (r : Result T E) → P → OnOk r P
+on-ok (Ok x) p = p
+on-ok (Err e) p = tt
+
 -- printing it
 module _ {L : Type 0} (written : Term → List Element) (g k h : Graph) (a b : Kept L) (p : ℕ) (well : g.failed ≡ false) (sound : IsTrue k.failed → ⊥) (proves : Proves g a.term b.term p k) (one : IsKept g a) (two : IsKept g b) where
   extends : ExtendsTo g k
@@ -69,6 +93,27 @@ module _ {L : Type 0} (written : Term → List Element) (g k h : Graph) (a b : K
         follows = subst (λ (x : Image). FollowsIn x a.term b.term) (sym takes.reads.image) (explained-follows k a b is (kept-later g k extends a one) (kept-later g k extends b two) p proves.explains);
       }
 
+  -- as a chain
+
+  pub chains : IsTrue k.failed ⊎ IsGraph k → OnlyTakesSlots k h → MakesForChain k h p → ChainsTerms g h a.term b.term
+  chains rests takes count =
+      let is : IsGraph k = elim rests [ inl f ↦ absurd (sound f) | inr i ↦ i ] in
+      record {
+        number = p;
+        between = k;
+        proves = proves;
+        keeps = proves.added.kept (ap is_some one.found) (ap is_some two.found);
+        takes = takes;
+        count = count;
+        follows = subst (λ (x : Image). FollowsIn x a.term b.term) (sym takes.reads.image) (explained-follows k a b is (kept-later g k extends a one) (kept-later g k extends b two) p proves.explains);
+      }
+
+  pub chain-refused : (r : Result (String Global) Error) → (IsErrOf r Failed → IsTrue k.failed) → (IsErrOf r OutOfSlots → ChainRunsOut k h p) → IfErr r (λ e. (e ≡ Failed) ⊎ IsShortage e) → OnlyTakesSlots k h → MakesForChain k h p → IfErr r (ChainRefused g h a.term b.term)
+  chain-refused (Ok text) was full only takes count = tt
+  chain-refused (Err e) was full (inl f) takes count = absurd (sound (was (ap Err f)))
+  chain-refused (Err e) was full (inr s) takes count = chain_ran_out p k well proves s (λ q. full (ap Err q)) takes count
+
+  -- as lines
   pub print-refused : (r : Result (String Global) Error) → (IsErrOf r Failed → IsTrue k.failed) → (IsErrOf r OutOfSlots → ProofRunsOut k h p) → IfErr r (λ e. (e ≡ Failed) ⊎ IsShortage e) → OnlyTakesSlots k h → MakesForProof k h p → IfErr r (ExplainRefused written g h a.term b.term)
   print-refused (Ok text) was full only takes count = tt
   print-refused (Err e) was full only takes count = inr (well, printing_ran_out p k proves (printing_refused {A = String Global} k h p (Err e) e refl sound was full only takes count))

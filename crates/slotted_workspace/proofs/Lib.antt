@@ -7,7 +7,10 @@ pub mod Rules
 pub mod RuleTexts
 pub mod Explanations
 pub mod Extractions
+pub mod Cheapest
 pub mod Runs
+pub mod Origins
+pub mod Handles
 pub mod Turns
 pub mod Methods
 pub mod Searches

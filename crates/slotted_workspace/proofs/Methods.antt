@@ -7,6 +7,7 @@ use Rattle.slotted_slots.specs.declared.error.Error.{Error}
 use Rattle.slotted_slots.specs.declared.error.Error.TheVariants.{OutOfMemory}
 use Rattle.slotted_slots.specs.Syntax.{Element}
 use Rattle.slotted_theory.specs.Term.{Term}
+use Rattle.slotted_terms.specs.Valid.{IsValidTerm}
 use Rattle.slotted_nodes.specs.Form.{Form}
 use Rattle.slotted_model.specs.Applied.{Applied}
 use Rattle.slotted_operations.specs.Graph.{Graph, OnlyReads}
@@ -91,8 +92,8 @@ module _ {L : Type 0} (form : L → Form) (n : ℕ) (g : Graph) (kept : List (Ke
 
   -- where a term is added
   module _ (read : List Element → Option Form) (h : Graph) (text : List ℕ) where
-    pub add-answered : (k : Kept L) (id : Applied) (now : List (Kept L)) (index : ℕ) → now ≡ kept ++ k ∷ [] → index ≡ length kept → AddsKept read g h text k.term id → AddsTerm read s (seen form n h now rules) text (record { workspace = n; index = index })
-    add-answered k id now index pushed at adds =
+    pub add-answered : (k : Kept L) (id : Applied) (now : List (Kept L)) (index : ℕ) → now ≡ kept ++ k ∷ [] → index ≡ length kept → AddsKept read g h text k.term id → IsValidTerm h.table k.term → AddsTerm read s (seen form n h now rules) text (record { workspace = n; index = index })
+    add-answered k id now index pushed at adds valid =
         let terms : terms_of now ≡ terms_of kept ++ k.term ∷ [] = ap terms_of pushed ∙ map-append (λ k. k.term) kept (k ∷ []) in
         let counted : index ≡ length (terms_of kept) = at ∙ sym (length-map kept (λ k. k.term)) in
         record {
@@ -101,6 +102,7 @@ module _ {L : Type 0} (form : L → Form) (n : ℕ) (g : Graph) (kept : List (Ke
           adds = subst (λ (x : Space). AddsKept read x.graph h text k.term id) is adds;
           handle = λ i. record { workspace = (is i).number; index = (counted ∙ ap (λ (x : Space). length x.terms) is) i };
           stands = subst (λ m. term_at (seen form n h now rules) (record { workspace = n; index = m }) ≡ Some k.term) (sym counted) (stands-next (seen form n h now rules) (terms_of kept) k.term terms);
+          valid = valid;
           rest = (λ i. record { number = n; graph = h; terms = terms i; rules = map (rule_of form) rules }) ∙ (λ i. record (is i) { graph = h; terms = (is i).terms ++ k.term ∷ [] });
         }
 

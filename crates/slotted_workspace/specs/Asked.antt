@@ -6,6 +6,7 @@
 --     UnionRefused g h e         it was refused so
 --     AddsKept, AddRefused       a text was read, and its term was added, or this was refused
 --     ExplainsTerms, ExplainRefused     a printed proof that two terms are equal, or a refusal
+--     ChainsTerms, ChainRefused         the same of a chain of terms, whose text is not spoken of
 --     ExtractsBy, ExtractByRefused      a printed term of least cost by some costs, or a refusal
 --     ExtractsTerm, ExtractRefused      the same of the number of nodes
 --     ReadsPattern, PatternRefused      the pattern of a text, or a refusal
@@ -18,7 +19,7 @@
 use Rattle.std.specs.Prelude.{◌≡◌, ◌⊎◌, ◌↔◌, ℕ, List, [], ◌∷◌, ◌++◌, length, map, Bool, true, false, Option, None, Some, Ok, Err, IsTrue, String, string_bytes}
 use Rattle.std.specs.declared.alloc.Global.{Global}
 use Rattle.slotted_slots.specs.declared.error.Error.{Error}
-use Rattle.slotted_slots.specs.declared.error.Error.TheVariants.{OutOfMemory, OutOfSlots, Failed, SubstInSearch}
+use Rattle.slotted_slots.specs.declared.error.Error.TheVariants.{OutOfMemory, OutOfSlots, Failed, NotEqual, SubstInSearch}
 use Rattle.slotted_slots.specs.Error.{IsShortage}
 use Rattle.slotted_slots.specs.Naming.{IsNamingRefusal}
 use Rattle.slotted_slots.specs.Syntax.{Element}
@@ -44,12 +45,13 @@ use Rattle.slotted_graph.specs.Extension.{ExtendsTo}
 use Rattle.slotted_graph.specs.LeastTerms.{IsLeastTerm, MakesForLeast, RunsOutForLeast}
 use Rattle.slotted_graph.specs.FiledNodes.{CanRunOutForDump}
 use Rattle.slotted_explain.specs.Printed.{IsProofText}
+use Rattle.slotted_explain.specs.Chain.{ChainRunsOut, MakesForChain}
 use Rattle.slotted_rules.specs.Reading.{first_unread, tree_reads}
 use Rattle.slotted_rules.specs.Rewriting.{IsSearched}
 use Rattle.slotted_rules.specs.Written.{AreRead, AreRefused, ReadsAs}
 use Rattle.slotted_rules.specs.declared.condition_tree.CondTree.{CondTree}
 use Rattle.slotted_rules.specs.declared.rewrite.Rewrite.{Rewrite}
-use Rattle.slotted_commands.specs.Explained.{ExplanationAnswers, Proves}
+use Rattle.slotted_commands.specs.Explained.{AreAddedApart, ExplanationAnswers, Proves, ProvingRunsOut}
 use Rattle.slotted_commands.specs.declared.answer.Answer.TheVariants.{Refused}
 use Rattle.slotted_commands.specs.Extracted.{sizes}
 use Rattle.slotted_commands.specs.Sessions.{GainsSyn, IsRefused, RunsOut, WritesTerm, canonically}
@@ -128,13 +130,14 @@ pub record AddsKept (read : List Element → Option Form) (g h : Graph) (text : 
   pub writes : WritesTerm read g text t between
   pub gains : GainsSyn between t id h
 
--- its handle is the next one, and stands for the term from now on
+-- its handle is the next one, and stands for the term from now on, which can be added again
 pub record AddsTerm (read : List Element → Option Form) (s v : Space) (text : List ℕ) (h : Handle) : Type 0 where
   pub term : Term
   pub id : Applied
   pub adds : AddsKept read s.graph v.graph text term id
   pub handle : h ≡ record { workspace = s.number; index = length s.terms }
   pub stands : term_at v h ≡ Some term
+  pub valid : IsValidTerm v.graph.table term
   pub rest : v ≡ record s { graph = v.graph; terms = s.terms ++ term ∷ [] }
 
 -- the text was refused, or its term, or the term was added and there was no memory to keep it
@@ -157,6 +160,23 @@ pub record ExplainsTerms (written : Term → List Element) (g h : Graph) (t u : 
 -- the graph had failed, or it was refused as the command of the line program is
 abbrev pub ExplainRefused : (Term → List Element) → Graph → Graph → Term → Term → Error → Type 0
 ExplainRefused written g h t u e = HadFailed g h e ⊎ ((g.failed ≡ false) × ExplanationAnswers written g t u h (Refused e))
+
+-- a chain of the entry that has the equation of both terms
+pub record ChainsTerms (g h : Graph) (t u : Term) : Type 0 where
+  pub number : ℕ
+  pub between : Graph
+  pub proves : Proves g t u number between
+  pub keeps : KeepsClasses g between
+  pub takes : OnlyTakesSlots between h
+  pub count : MakesForChain between h number
+  pub follows : FollowsIn h.image t u
+
+-- the terms are not equal by what is asserted, or memory or slots ran out before there was a proof, or in printing it
+pub data ChainRefused (g h : Graph) (t u : Term) (e : Error) : Type 0 where
+  had_failed : HadFailed g h e → ChainRefused g h t u e
+  are_apart : g.failed ≡ false → e ≡ NotEqual → AreAddedApart g t u h → ChainRefused g h t u e
+  proof_ran_out : g.failed ≡ false → ProvingRunsOut g t u e h → ChainRefused g h t u e
+  chain_ran_out : (p : ℕ) (k : Graph) → g.failed ≡ false → Proves g t u p k → IsShortage e → (e ≡ OutOfSlots → ChainRunsOut k h p) → OnlyTakesSlots k h → MakesForChain k h p → ChainRefused g h t u e
 
 -- the text is that of a term of least cost, which follows from what is asserted, and costs no more than the term itself
 pub record ExtractsBy {L C : Type 0} (form : L → Form) (written : Term → List Element) (costs : CostFunction C) (g h : Graph) (t : Term) (cost : C) (text : String Global) : Type 0 where

@@ -2,6 +2,8 @@ pub mod PatternCode
 pub mod Spaces
 pub mod Keeping
 pub mod Asked
+pub mod Cheapest
 pub mod Runs
+pub mod Saturating
 pub mod Turns
 pub mod RuleTexts

@@ -1,7 +1,7 @@
-//! Proofs as texts.
-ghost use Rattle.std.specs.Prelude.{◌≡◌, ◌⊎◌, IfOk, IfErr, IsTrue};
+//! Proofs as texts: as lines, or as a chain of terms.
+ghost use Rattle.std.specs.Prelude.{◌≡◌, ◌⊎◌, IfOk, IfErr, OnOk, IsTrue};
 ghost use Rattle.slotted_graph.specs.Extension.{ExtendsTo};
-ghost use Rattle.slotted_workspace.specs.Asked.{ExplainsTerms, ExplainRefused};
+ghost use Rattle.slotted_workspace.specs.Asked.{ChainRefused, ChainsTerms, ExplainsTerms, ExplainRefused};
 ghost use Rattle.slotted_workspace.specs.Keeping.{IsKept};
 
 use crate::kept::Kept;
@@ -29,4 +29,24 @@ pub(crate) fn explanation<L: Printable>(
     // This call is there for its clauses: what holds of each graph that has not failed.
     let _ = graph.is_failed();
     proof.to_string(alloc, graph)
+}
+
+/// Returns the chain of terms of a proof that two kept terms are equal.
+pub(crate) fn chain<L: Printable>(
+    alloc: Global,
+    graph: &mut EGraph<L>,
+    left: &Kept<L>,
+    right: &Kept<L>,
+) -> Result<String, Error>
+    requires left { IsTrue graph.old.failed ⊎ IsKept graph.old left.now }
+    requires right { IsTrue graph.old.failed ⊎ IsKept graph.old right.now }
+    ensures ok { OnOk result (ChainsTerms graph.old graph.new left.now.term right.now.term) }
+    ensures err { IfErr result (ChainRefused graph.old graph.new left.now.term right.now.term) }
+    ensures extends { IsTrue graph.new.failed ⊎ ExtendsTo graph.old graph.new }
+    ensures stays { IsTrue graph.old.failed → graph.new ≡ graph.old }
+{
+    let proof = graph.explain_equivalence(&left.term, &right.term)?;
+    // This call is there for its clauses: what holds of each graph that has not failed.
+    let _ = graph.is_failed();
+    proof.to_flat_string(alloc, graph)
 }

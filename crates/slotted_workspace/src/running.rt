@@ -3,12 +3,13 @@ ghost use Rattle.std.specs.Prelude.{◌≡◌, ◌⊎◌, All, IsTrue};
 ghost use Rattle.slotted_graph.specs.Extension.{ExtendsTo};
 ghost use Rattle.slotted_rules.specs.Written.{CanBeSearched};
 ghost use Rattle.slotted_workspace.specs.Runs.{RunAnswers};
+ghost use Rattle.slotted_workspace.specs.Saturating as saturating;
 
 use slotted_analyses::Analysis;
 use slotted_explain::EGraph;
 use slotted_languages::Language;
 use slotted_rules::{CondTree, Rewrite};
-use slotted_runs::{Clock, Hook, HookStop, Report, run_eqsat};
+use slotted_runs::{Clock, Hook, HookStop, Report, StopReason, run_eqsat};
 use slotted_slots::Error;
 use std::alloc::Global;
 
@@ -103,4 +104,14 @@ pub(crate) fn run_rules<L: Language>(
         &mut hook,
         &mut clock,
     )
+}
+
+/// Returns whether a run that stopped for this reason has ended saturated.
+pub(crate) fn is_saturated(reason: &StopReason) -> bool
+    ensures { result ≡ saturating.is_saturated reason.now }
+{
+    match reason {
+        StopReason::Saturated => true,
+        _ => false,
+    }
 }

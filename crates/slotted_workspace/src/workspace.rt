@@ -3,7 +3,7 @@ ghost use Rattle.std.specs.Prelude.{◌≡◌, ◌⊎◌, ◌++◌, ◌+◌, ◌
 ghost use Rattle.slotted_operations.specs.Image.{CountsOpen};
 ghost use Rattle.slotted_costs.specs.Costs.{costs_by};
 ghost use Rattle.slotted_operations.specs.Graph.{OnlyReads};
-ghost use Rattle.slotted_workspace.specs.Asked.{AddsKept, AddRefused, ChangesGraph, Compares, ExplainsTerms};
+ghost use Rattle.slotted_workspace.specs.Asked.{AddsKept, AddRefused, ChainRefused, ChainsTerms, ChangesGraph, Compares, ExplainsTerms};
 ghost use Rattle.slotted_workspace.specs.Asked.{ExplainRefused, ExtractsTerm, ExtractRefused, HadFailed};
 ghost use Rattle.slotted_workspace.specs.Asked.{OfBoth, OfOne, Refuses, RefusesBoth, RefusesOne, UnitesTerms};
 ghost use Rattle.slotted_slots.specs.Table.{gives, named_of};
@@ -12,19 +12,20 @@ ghost use Rattle.slotted_workspace.specs.Asked.{DrawRefused, Draws, ExtractsBy, 
 ghost use Rattle.slotted_workspace.specs.Asked.{HasMatches, PatternRefused, ReadsPattern, SearchRefused};
 ghost use Rattle.slotted_workspace.specs.RuleTexts.{KeepsRules, RefusesText};
 ghost use Rattle.slotted_workspace.specs.Runs.{HasRun, OfRules, RunRefused};
+ghost use Rattle.slotted_workspace.specs.Saturating.{HasRulesRun};
 ghost use Rattle.slotted_workspace.specs.Spaces.{empty_space, term_at};
 ghost use Rattle.slotted_workspace.specs.Turns.{TakesTurn, TurnRefused};
 
 use crate::drawing::{drawn, dumped};
 use crate::error::WorkspaceError;
-use crate::explaining::explanation;
+use crate::explaining::{chain, explanation};
 use crate::extracting::{Extracted, cheapest};
 use crate::handle::Handle;
 use crate::kept::{Kept, both_at, kept_at};
 use crate::numbers::WorkspaceNumbers;
 use crate::reading::{read_pattern, read_rule, read_term};
 use crate::rule_texts::rules_of_text;
-use crate::running::{Limits, run_rules};
+use crate::running::{Limits, is_saturated, run_rules};
 use crate::searching::count_found;
 use crate::turning::take_turn;
 use crate::uniting::{unite, unite_because};
@@ -250,6 +251,17 @@ impl<L: Language> Workspace<L> {
         Ok(run_rules(self.alloc, &mut self.graph, &self.rules, limits)?)
     }
 
+    /// Runs all rules as `run` does. Returns whether they ended before a limit was passed.
+    pub fn saturate(&mut self, limits: Limits) -> Result<bool, WorkspaceError>
+        ensures ok { IfOk result (HasRulesRun L.form limits self.old self.new) }
+        ensures rest { OnOk result (ChangesGraph self.old self.new) }
+        ensures err { IfErr result (Refuses self.old self.new (λ e. OfRules L.form self.old
+            (λ rules. RunRefused L.form rules limits.turns limits.nodes self.old.graph self.new.graph e))) }
+    {
+        let report = self.run(limits)?;
+        Ok(is_saturated(&report.stop_reason))
+    }
+
     /// Applies all rules once, and returns what each of them found and united. So a caller can tell the progress of a
     /// run, and stop at limits of its own.
     pub fn turn(&mut self) -> Result<TurnCounts, WorkspaceError>
@@ -324,6 +336,18 @@ impl<L: Printable> Workspace<L> {
     {
         let (left, right) = both_at(&self.kept, self.number, a, b)?;
         Ok(explanation(self.alloc, &mut self.graph, left, right)?)
+    }
+
+    /// Returns a proof that two terms are equal as a chain of terms: the first term, and for each assertion that is used a
+    /// line with the whole term after it. The lines are those of `to_flat_string` of slotted_explain.
+    pub fn explain_chain(&mut self, a: Handle, b: Handle) -> Result<String, WorkspaceError>
+        ensures ok { OnOk result (OfBoth self.old a b (ChainsTerms self.old.graph self.new.graph)) }
+        ensures rest { OnOk result (ChangesGraph self.old self.new) }
+        ensures err { IfErr result (RefusesBoth self.old self.new a b
+            (ChainRefused self.old.graph self.new.graph)) }
+    {
+        let (left, right) = both_at(&self.kept, self.number, a, b)?;
+        Ok(chain(self.alloc, &mut self.graph, left, right)?)
     }
 
     /// Returns a term of the fewest e-nodes that is equal to the handle's term, and its number of e-nodes.

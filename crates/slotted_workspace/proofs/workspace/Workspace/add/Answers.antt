@@ -37,4 +37,4 @@ invariant_of-self-2 g c =
 pub returns-clause-ok : goal.returns-clause-ok
 returns-clause-ok g c =
     let k = c.in_ok-kept.kept in
-    add-answered g.L.LanguageChildren.form c.self.inside.number c.self.inside.graph c.self.inside.kept.items c.self.inside.rules.items c.args.self.now c.self.view_is g.L.LanguageChildren.read c.read_term.new.graph c.args.text.now k (to_applied k.id) c.push.new.self.items c.len-index.result c.in_ok-push.ensures.items (c.len-index.ensures ∙ c.self.inside.kept.ok.0) c.in_ok-kept.ensures.ok
+    add-answered g.L.LanguageChildren.form c.self.inside.number c.self.inside.graph c.self.inside.kept.items c.self.inside.rules.items c.args.self.now c.self.view_is g.L.LanguageChildren.read c.read_term.new.graph c.args.text.now k (to_applied k.id) c.push.new.self.items c.len-index.result c.in_ok-push.ensures.items (c.len-index.ensures ∙ c.self.inside.kept.ok.0) c.in_ok-kept.ensures.ok c.in_ok-kept.ensures.valid

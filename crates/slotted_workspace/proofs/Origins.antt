@@ -19,7 +19,7 @@ use Rattle.slotted_runs.proofs.RunOrigins.{eqsat-origins, rules-alone}
 use Rattle.slotted_workspace.specs.Runs.{HasRun, OfRules, StopsPast, endless, leaves_by}
 use Rattle.slotted_workspace.specs.Spaces.{Space}
 use Rattle.slotted_workspace.specs.declared.running.Limits.{Limits}
-use Rattle.slotted_uses.specs.Questions.{HasRulesRun, is_saturated}
+use Rattle.slotted_workspace.specs.Saturating.{HasRulesRun, is_saturated}
 
 -- the hook leaves the graph as it is
 limit-still : (n : ℕ) (g h : Graph) (stop : Option (String Global)) → StopsPast n g h stop → h ≡ g
