@@ -1,8 +1,8 @@
 -- What is equal where a written rule was applied to its matches.
 --     HasEqualIds R given h rule s       instances of both sides under s stand for ids of h, and are equal by what is asserted
---     HaveEqualInstances g h p q s       the same of two pattern trees, whatever names are given that g knew
+--     HaveEqualInstances g h p q s       the same of two pattern trees and one substitution of full ids that fill s, whatever names are given that g knew
 --     HasAppliedMatches g h p q          a search for p between g and h found answers, and for each of them instances of p and q are equal in h
-use Rattle.std.specs.Prelude.{◌≡◌, ℕ, List, Contains, Bool, Some}
+use Rattle.std.specs.Prelude.{◌≡◌, ℕ, List, [], Contains, Bool, Some}
 use Rattle.slotted_theory.specs.Derives.{Equal}
 use Rattle.slotted_theory.specs.Nameless.{DTerm}
 use Rattle.slotted_slots.specs.Table.{AllKnown}
