@@ -69,7 +69,7 @@ returns-in_err-right-clause-carries g c =
     let left = c.in_ok-left.ensures.ok.grows in
     let taken = extends-takes g0 d c.full_values.ensures.takes in
     let first = carries-on g.N.Analysis.codes g.N.Analysis.meaning g.met.N.Analysis.is_merge g0 d e taken
-        (carries-takes g.N.Analysis.codes g.N.Analysis.meaning g.met.N.Analysis.is_merge g0 d c.full_values.ensures.takes) left.graph.well c.build_stored.ensures.carries in
+    (carries-takes g.N.Analysis.codes g.N.Analysis.meaning g.met.N.Analysis.is_merge g0 d c.full_values.ensures.takes) left.graph.well c.build_stored.ensures.carries in
     later-carries g.N.Analysis.codes g.N.Analysis.meaning g.met.N.Analysis.is_merge g0 e c.build_stored-2.new.graph (extends-then g0 d e taken left.extends) first c.build_stored-2.ensures.carries
 
 pub returns-clause-carries : goal.returns-clause-carries
