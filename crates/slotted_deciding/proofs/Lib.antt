@@ -5,3 +5,6 @@ pub mod Growing
 pub mod Checked
 pub mod Unions
 pub mod NoSymmetry
+pub mod Refusals
+pub mod Asked
+pub mod Assertions

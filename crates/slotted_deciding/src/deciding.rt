@@ -1,9 +1,10 @@
 //! Deciding a graph.
-ghost use Rattle.std.specs.Prelude.{◌≡◌, ◌⊎◌, ◌↔◌, [], IfErr, IfOk, IsErrOf, IsNone, IsTrue, OnOk};
+ghost use Rattle.std.specs.Prelude.{◌≡◌, ◌⊎◌, ◌↔◌, [], IfErr, IfOk, IsErr, IsErrOf, IsNone, IsTrue, OnOk};
 ghost use Rattle.slotted_graph.specs.States.{IsGraph};
 ghost use Rattle.slotted_symmetries.specs.Equality.{IsDecidedGraph};
 ghost use Rattle.slotted_deciding.specs.Steps.{CanRefuse, GoesTo};
 
+use crate::failing::failing;
 use crate::settling::{Missing, first_missing};
 use crate::uniting::unite_missing;
 use slotted_analyses::Analysis;
@@ -29,6 +30,28 @@ fn any_missing<L: Language, N: Analysis<L>>(
     first_missing(alloc, graph, 0)
 }
 
+// Adds and unites what is missing, until nothing is, or `limit` e-nodes were united. Returns whether nothing is.
+fn settle<L: Language, N: Analysis<L>>(
+    alloc: Global,
+    graph: &mut EGraph<L, N>,
+    limit: usize,
+) -> Result<bool, Error>
+    requires graph { IsGraph graph.old }
+    ensures decided { IfOk result (λ y. IsTrue y → IsDecidedGraph graph.new) }
+    ensures goes { OnOk result (GoesTo graph.old graph.new) }
+    ensures err { IfErr result CanRefuse }
+{
+    let mut first = 0;
+    for _ in 0..limit {
+        let Some(missing) = any_missing(alloc, graph, first)? else {
+            return Ok(true);
+        };
+        first = missing.id.id.0;
+        unite_missing(alloc, graph, &missing)?;
+    }
+    Ok(any_missing(alloc, graph, 0)?.is_none())
+}
+
 /// Decides the symmetries of a graph: adds each e-node that it lacks, and unites it, until none is missing or `limit`
 /// e-nodes were united. Returns whether the graph is decided.
 ///
@@ -46,9 +69,11 @@ pub fn decide<L: Language, N: Analysis<L>>(
     ensures none_met { graph.old.image.symmetries ≡ [] → IfOk result IsTrue × (graph.new ≡ graph.old) }
 
     // What was there stays, and nothing is asserted.
-    ensures goes { OnOk result (GoesTo graph.old graph.new) }
+    ensures goes { IsTrue graph.new.failed ⊎ GoesTo graph.old graph.new }
 
+    ensures stays { IsTrue graph.old.failed → graph.new ≡ graph.old }
     ensures failed { IsErrOf result Error.Failed ↔ IsTrue graph.old.failed }
+    ensures fails { IsTrue graph.new.failed ↔ IsErr result }
     ensures only { IfErr result (λ e. (e ≡ Error.Failed) ⊎ CanRefuse e) }
 {
     if graph.is_failed() {
@@ -57,13 +82,6 @@ pub fn decide<L: Language, N: Analysis<L>>(
     if graph.symmetries_met().is_empty() {
         return Ok(true);
     }
-    let mut first = 0;
-    for _ in 0..limit {
-        let Some(missing) = any_missing(alloc, graph, first)? else {
-            return Ok(true);
-        };
-        first = missing.id.id.0;
-        unite_missing(alloc, graph, &missing)?;
-    }
-    Ok(any_missing(alloc, graph, 0)?.is_none())
+    let outcome = settle(alloc, graph, limit);
+    failing(graph, outcome)
 }

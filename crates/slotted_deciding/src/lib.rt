@@ -5,9 +5,15 @@
 //! e-node that it equals.
 #![tactic(auto)]
 
+pub mod asking;
 pub mod deciding;
+pub(crate) mod failing;
+pub mod proving;
 pub mod settling;
 pub(crate) mod stepping;
 pub mod uniting;
+pub(crate) mod walking;
 
+pub use asking::{Explained, Verdict, decided_eq, decided_explain};
 pub use deciding::decide;
+pub use proving::prove;

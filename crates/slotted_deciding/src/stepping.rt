@@ -169,7 +169,7 @@ fn proof_of<L: Language, N: Analysis<L>>(
 
 // Returns the proof of an equation by three proofs: its left side equals the left side of the middle equation, the
 // middle one holds, and its right side equals the right side of the equation.
-fn joined<L: Language, N: Analysis<L>>(
+pub(crate) fn joined<L: Language, N: Analysis<L>>(
     alloc: Global,
     graph: &mut EGraph<L, N>,
     equation: &Equation,

@@ -3,14 +3,15 @@
 //! `union T == U` answers `true` if the terms were not equal, and unites them. `eq T == U` answers whether the ids of
 //! both terms are found equal. `same T == U` answers whether these ids are equal up to symmetries. `symmetries` answers
 //! how many symmetries were met, and how many of them are open. `decide` decides the graph, and answers `decided`, or
-//! `open` if more than a thousand e-nodes are missing. `asserted` answers how many equations were asserted. Any other line
-//! is answered by an error.
+//! `open` if more than a thousand e-nodes are missing. `explain T == U` decides the graph, and prints the proof that both
+//! terms are equal. `asserted` answers how many equations were asserted. Any other line is answered by an error.
 //!
 //! A line `---` stands between two sessions, and each session has a graph of its own. A line that begins with `# ` is a
 //! title. Both are written as they stand.
 #![tactic(auto)]
 
-use slotted_deciding::decide;
+use slotted_deciding::{Explained, decide, decided_explain};
+use slotted_explain::Explanation;
 use slotted_graph::EGraph;
 use slotted_slots::{AppliedId, Error, SlotTable};
 use slotted_small::Small;
@@ -79,6 +80,21 @@ fn asserted(alloc: Global, graph: &EGraph<Small>) -> Result<String, Error> {
     Ok(format!(in alloc; "{count}")?)
 }
 
+// Decides the graph, and returns the proof that the terms of two texts are equal, without the last line feed.
+fn explained(alloc: Global, graph: &mut EGraph<Small>, texts: &str) -> Result<String, Error> {
+    let (left, right) = texts.split_once(" == ").unwrap_or((texts, ""));
+    let left = graph.parse_expr(left)?;
+    let right = graph.parse_expr(right)?;
+    if !graph.is_valid_expr(&left) || !graph.is_valid_expr(&right) {
+        return Err(Error::NotATerm);
+    }
+    let Explained::Proved(proof) = decided_explain(alloc, graph, &left, &right, LIMIT)? else {
+        return Err(Error::NotEqual);
+    };
+    let text = proof.to_string(alloc, graph)?;
+    Ok(String::from_str(alloc, text.trim_end())?)
+}
+
 // Returns an answer as text.
 fn told(word: &str, holds: bool) -> &'static str {
     match (word, holds) {
@@ -98,6 +114,9 @@ fn answer(alloc: Global, graph: &mut EGraph<Small>, line: &str) -> Result<String
         _ => {}
     }
     let (word, texts) = line.split_once(" ").unwrap_or((line, ""));
+    if word == "explain" {
+        return explained(alloc, graph, texts);
+    }
     let holds = answer_of_texts(alloc, graph, word, texts)?;
     Ok(String::from_str(alloc, told(word, holds))?)
 }

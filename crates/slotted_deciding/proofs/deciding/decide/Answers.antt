@@ -1,21 +1,30 @@
 use Rattle.std.proofs.Common.{◌∙◌, sym}
+use Rattle.std.specs.Prelude.{IsTrue}
 use Rattle.slotted_graph.proofs.Insides.{given}
-use Rattle.slotted_deciding.proofs.Growing.{goes-then}
+use Rattle.slotted_symmetries.specs.Equality.{IsDecidedGraph}
 use Rattle.slotted_deciding.proofs.NoSymmetry.{decided-without, none-listed}
+use Rattle.slotted_deciding.proofs.Refusals.{left-failed, left-fails, left-goes, left-ok, left-only}
 use Rattle.slotted_deciding.proofs.deciding.decide.Goals as goal
-
-pub returns-in_default-clause-goes : goal.returns-in_default-clause-goes
-returns-in_default-clause-goes g c = goes-then c.args.graph.now c.loop.graph c.any_missing.new.graph c.loop.invariant c.in_ok-missing.ensures.goes
-
-pub loop-preserved : goal.loop-preserved
-loop-preserved g c =
-    let there = goes-then c.args.graph.now c.loop.graph c.any_missing.new.graph c.loop.invariant c.in_ok-missing.ensures.goes in
-    goes-then c.args.graph.now c.any_missing.new.graph c.unite_missing.new.graph there c.in_ok-unite_missing.ensures.goes
-
-pub returns-clause-goes : goal.returns-clause-goes
-returns-clause-goes g c = goes-then c.args.graph.now c.loop.graph c.any_missing-2.new.graph c.loop.invariant c.in_ok-any_missing.ensures.goes
 
 pub returns-then-is_empty-clause-decided : goal.returns-then-is_empty-clause-decided
 returns-then-is_empty-clause-decided g c said =
     decided-without c.args.graph.now (given (sym c.if-is_failed.ensures.failed) c.if-is_failed.ensures.rests)
     (none-listed c.symmetries_met.result.now c.args.graph.now.image.symmetries c.symmetries_met.ensures.list (sym c.is_empty.ensures ∙ c.if-is_empty.true))
+
+pub returns-clause-decided : goal.returns-clause-decided
+returns-clause-decided g c =
+    let o = c.settle-outcome in
+    let f = c.failing.ensures in
+    left-ok c.args.graph.now o.new.graph c.failing.new.graph o.result c.failing.result f.same f.refused f.done (λ y h. IsTrue y → IsDecidedGraph h) o.ensures.decided
+
+pub returns-clause-goes : goal.returns-clause-goes
+returns-clause-goes g c =
+    let o = c.settle-outcome in
+    let f = c.failing.ensures in
+    left-goes c.args.graph.now o.new.graph c.failing.new.graph o.result c.failing.result f.same f.refused f.done o.ensures.goes
+
+pub returns-clause-fails : goal.returns-clause-fails
+returns-clause-fails g c =
+    let o = c.settle-outcome in
+    let f = c.failing.ensures in
+    left-fails c.args.graph.now o.new.graph c.failing.new.graph o.result c.failing.result f.same f.refused f.done o.ensures.goes

@@ -1,0 +1,18 @@
+use Rattle.std.proofs.Common.{inr}
+use Rattle.std.proofs.lemmas.Bool.{false≢true}
+use Rattle.slotted_operations.proofs.CallerLemmas.{term_later}
+use Rattle.slotted_deciding.proofs.Growing.{goes-then}
+use Rattle.slotted_deciding.proofs.Unions.{goes-added, good-graph}
+use Rattle.slotted_deciding.proofs.asking.add_both.Goals as goal
+
+pub add_syn_expr_quietly-requires-2 : goal.add_syn_expr_quietly-requires-2
+add_syn_expr_quietly-requires-2 g c = inr (term_later c.args.graph.now.table c.add_syn_expr_quietly.new.self.table c.add_syn_expr_quietly.ensures.more c.args.right.now c.requires.second)
+
+pub returns-clause-goes : goal.returns-clause-goes
+returns-clause-goes g c =
+    let start = c.args.graph.now in
+    let k = c.add_syn_expr_quietly.new.self in
+    let h = c.add_syn_expr_quietly-2.new.self in
+    let one = goes-added start k (good-graph k (λ bad. false≢true (c.in_ok-one.ensures.fails.0 bad)) c.is_failed.ensures.rests) c.in_ok-one.ensures.extends c.in_ok-one.ensures.adds c.add_syn_expr_quietly.ensures.more in
+    goes-then start k h one
+    (goes-added k h (good-graph h (λ bad. false≢true (c.in_ok-two.ensures.fails.0 bad)) c.is_failed-2.ensures.rests) c.in_ok-two.ensures.extends c.in_ok-two.ensures.adds c.add_syn_expr_quietly-2.ensures.more)
