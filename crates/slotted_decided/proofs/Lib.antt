@@ -1,0 +1,3 @@
+pub mod DecidedTurns
+pub mod Origins
+pub mod LeastOfEqual
