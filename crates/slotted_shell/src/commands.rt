@@ -3,7 +3,13 @@ use crate::help::told_help;
 use crate::rules::keep_rule;
 use crate::shell::Shell;
 use crate::trouble::Trouble;
+use slotted_deciding::Verdict;
+use slotted_slots::Error;
+use slotted_workspace::ExplainedText;
 use std::alloc::Global;
+
+/// How many e-nodes a decision adds at most.
+pub const VARIANTS: usize = 1_000;
 
 /// Returns the answer to a line, by its first word and what follows.
 pub fn answer(shell: &mut Shell, word: &str, rest: &str) -> Result<String, Trouble> {
@@ -15,7 +21,7 @@ pub fn answer(shell: &mut Shell, word: &str, rest: &str) -> Result<String, Troub
             ok(shell.alloc)
         }
         "union" => unite(shell, rest),
-        "eq" => Ok(String::from_str(shell.alloc, if equal(shell, rest)? { "yes" } else { "no" })?),
+        "eq" => Ok(String::from_str(shell.alloc, told(judged(shell, rest)?))?),
         "check" => check(shell, rest),
         "explain" => explain(shell, rest),
         "cost" => set_cost(shell, rest),
@@ -67,28 +73,51 @@ fn unite(shell: &mut Shell, text: &str) -> Result<String, Trouble> {
     }
 }
 
-fn equal(shell: &mut Shell, text: &str) -> Result<bool, Trouble> {
+fn judged(shell: &mut Shell, text: &str) -> Result<Verdict, Trouble> {
     let (left, right) = shell.add_both(text)?;
-    match shell.workspace.eq(left, right) {
-        Ok(equal) => Ok(equal),
+    match shell.workspace.decided_eq(left, right, VARIANTS) {
+        Ok(verdict) => Ok(verdict),
         Err(error) => Err(Trouble::of_call(shell.alloc, &error, text)),
+    }
+}
+
+fn told(verdict: Verdict) -> &'static str {
+    match verdict {
+        Verdict::Yes => "yes",
+        Verdict::No => "no",
+        Verdict::Open => "not decided",
     }
 }
 
 fn check(shell: &mut Shell, text: &str) -> Result<String, Trouble> {
-    if equal(shell, text)? {
+    let verdict = judged(shell, text)?;
+    if verdict == Verdict::Yes {
         return ok(shell.alloc);
     }
     shell.failed_checks = shell.failed_checks.saturating_add(1);
+    if verdict == Verdict::Open {
+        return Err(undecided(shell.alloc, text)?);
+    }
     let told = format!(in shell.alloc; "not found equal: {text}")?;
     Err(Trouble::said(12, "NotFound", told))
 }
 
+fn undecided(alloc: Global, text: &str) -> Result<Trouble, Trouble> {
+    Ok(Trouble::said(
+        15,
+        "NotDecided",
+        format!(in alloc; "the graph has too many symmetries to decide: {text}")?,
+    ))
+}
+
 fn explain(shell: &mut Shell, text: &str) -> Result<String, Trouble> {
+    let alloc = shell.alloc;
     let (left, right) = shell.add_both(text)?;
-    match shell.workspace.explain(left, right) {
-        Ok(proof) => Ok(String::from_str(shell.alloc, proof.trim_end())?),
-        Err(error) => Err(Trouble::of_call(shell.alloc, &error, text)),
+    match shell.workspace.decided_explain(left, right, VARIANTS) {
+        Ok(ExplainedText::Proved(proof)) => Ok(String::from_str(alloc, proof.trim_end())?),
+        Ok(ExplainedText::Unequal) => Err(Trouble::of_text(alloc, &Error::NotEqual, text)),
+        Ok(ExplainedText::Undecided) => Err(undecided(alloc, text)?),
+        Err(error) => Err(Trouble::of_call(alloc, &error, text)),
     }
 }
 

@@ -7,7 +7,7 @@ const ALL: &str =
 rule NAME: L => R        keeps a rule; `<=>` keeps both directions; ` if $x not in ?v and $y in ?w` may follow
 add T                    adds a term
 union T == U             asserts an equation; ` because NAME` may follow
-eq T == U                yes or no
+eq T == U                yes or no; `not decided` if the graph has too many symmetries
 check T == U             as eq; a no is an error, and the status at the end is 1
 explain T == U           a proof
 run [TURNS]              runs the rules, 30 turns and 10000 e-nodes if nothing is said; ` nodes N` or ` seconds S` may follow

@@ -1,4 +1,5 @@
 //! Runs of a session's rules, one turn after another.
+use crate::commands::VARIANTS;
 use crate::shell::Shell;
 use crate::trouble::Trouble;
 use anyhow::Result;
@@ -103,20 +104,67 @@ fn show_end(rt: &HostRuntime, shell: &Shell, turns: u32, reason: &str) -> Result
     Ok(())
 }
 
+// Decides the graph. Returns whether it is decided.
+fn decide(shell: &mut Shell) -> Result<bool, Trouble> {
+    match shell.workspace.decide(VARIANTS) {
+        Ok(is_decided) => Ok(is_decided),
+        Err(error) => Err(Trouble::of_call(shell.alloc, &error, "run")),
+    }
+}
+
+// Applies the rules once, and decides the graph. Returns what each rule did, and whether a class or a symmetry changed.
+fn take_turn(shell: &mut Shell) -> Result<(TurnCounts, bool), Trouble> {
+    let listed = shell.workspace.graph().symmetries_met().len();
+    let counts = match shell.workspace.turn() {
+        Ok(counts) => counts,
+        Err(error) => return Err(Trouble::of_call(shell.alloc, &error, "run")),
+    };
+    let is_more = shell.workspace.graph().symmetries_met().len() > listed;
+    let changed = counts.changed || is_more;
+    Ok((counts, changed))
+}
+
+// Takes a turn, writes what it did, and returns why the run stops after it, if it does.
+fn run_turn(
+    rt: &HostRuntime,
+    shell: &mut Shell,
+    number: u32,
+    limits: &RunLimits,
+    begin: &Instant,
+) -> Result<Result<Option<&'static str>, Trouble>> {
+    let (counts, changed) = match take_turn(shell) {
+        Ok(taken) => taken,
+        Err(trouble) => return Ok(Err(trouble)),
+    };
+    let is_decided = match decide(shell) {
+        Ok(is_decided) => is_decided,
+        Err(trouble) => return Ok(Err(trouble)),
+    };
+    note_turn(shell, &counts);
+    show_turn(rt, shell, number, &counts)?;
+    if !is_decided {
+        return Ok(Ok(Some("NotDecided")));
+    }
+    Ok(Ok(reason(shell, limits, changed, begin.elapsed(rt).ok())))
+}
+
 /// Runs the rules, and writes a line for each turn before the next one begins. Then it writes the number of turns, why
 /// the run stopped, and the number of e-nodes.
+///
+/// The graph is decided before the first turn and after each turn, so that a turn finds the matches that need a symmetry.
 pub fn run(rt: &HostRuntime, shell: &mut Shell, limits: RunLimits) -> Result<Result<(), Trouble>> {
     let begin = Instant::now(rt)?;
+    if let Err(trouble) = decide(shell) {
+        return Ok(Err(trouble));
+    }
     for number in 1..=limits.turns {
-        let counts = match shell.workspace.turn() {
-            Ok(counts) => counts,
-            Err(error) => return Ok(Err(Trouble::of_call(shell.alloc, &error, "run"))),
-        };
-        note_turn(shell, &counts);
-        show_turn(rt, shell, number, &counts)?;
-        if let Some(reason) = reason(shell, &limits, counts.changed, begin.elapsed(rt).ok()) {
-            show_end(rt, shell, number, reason)?;
-            return Ok(Ok(()));
+        match run_turn(rt, shell, number, &limits, &begin)? {
+            Ok(None) => {}
+            Ok(Some(reason)) => {
+                show_end(rt, shell, number, reason)?;
+                return Ok(Ok(()));
+            }
+            Err(trouble) => return Ok(Err(trouble)),
         }
     }
     show_end(rt, shell, limits.turns, "IterationLimit")?;

@@ -1,4 +1,3 @@
 -- Counts of open symmetries, terms that handles stand for, and verdicts on two terms.
-pub mod Closed
 pub mod Standing
 pub mod Judging

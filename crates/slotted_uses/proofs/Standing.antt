@@ -1,15 +1,17 @@
 -- Which terms the handles of a question stand for, and what an answered question says of them.
 use Rattle.std.proofs.Common.{◌≡◌, ◌∙◌, ℕ, List, ap, subst, sym}
-use Rattle.std.specs.Prelude.{Bool, IfOk, OnOk, Option, Result, Ok, Err, Some}
+use Rattle.std.specs.Prelude.{IfOk, OnOk, Option, Result, Ok, Err, Some}
 use Rattle.slotted_slots.specs.Syntax.{Element}
 use Rattle.slotted_theory.specs.Term.{Term}
 use Rattle.slotted_nodes.specs.Form.{Form}
 use Rattle.slotted_model.proofs.Data.Options.{Some-same}
+use Rattle.slotted_decided.specs.declared.running.DecidedLimits.{DecidedLimits}
+use Rattle.slotted_decided.specs.declared.running.DecidedRun.{DecidedRun}
 use Rattle.slotted_workspace.specs.Asked.{AddsTerm, ChangesGraph, OfBoth}
-use Rattle.slotted_workspace.specs.Saturating.{HasRulesRun}
+use Rattle.slotted_workspace.specs.Decided.{RunsDecided}
+use Rattle.slotted_workspace.specs.Runs.{OfRules}
 use Rattle.slotted_workspace.specs.Spaces.{Space, term_at}
 use Rattle.slotted_workspace.specs.declared.handle.Handle.{Handle}
-use Rattle.slotted_workspace.specs.declared.running.Limits.{Limits}
 use Rattle.slotted_workspace.proofs.Handles.{asserts-nothing, stands-changed, stands-later}
 use Rattle.slotted_uses.specs.Questions.{AddsBoth, AnswersQuestion, Judges}
 use Rattle.slotted_uses.specs.declared.question.Verdict.{Verdict}
@@ -36,17 +38,17 @@ module _ (read : List Element → Option Form) (s between both : Space) (left ri
       subst (λ t. P t b.term) (Some-same of.0 a.term (sym of.2 ∙ one)) (subst (P of.0) (Some-same of.1 b.term (sym of.3 ∙ two)) of.4)
 
   -- the rules have run, and the terms were judged
-  pub answered : {L : Type 0} (form : L → Form) (written : Term → List Element) (limits : Limits) (ran v : Space) (ended : Bool) (x : Verdict) → HasRulesRun form limits both ran ended → ChangesGraph both ran →
-      OfBoth ran first second (λ t u. Judges written ran.graph v.graph ended t u x) → ChangesGraph ran v → AnswersQuestion form read written limits s v left right x
-  answered form written limits ran v ended x runs only judged changes = record {
+  pub answered : {L : Type 0} (form : L → Form) (written : Term → List Element) (limits : DecidedLimits) (ran v : Space) (run : DecidedRun) (x : Verdict) → OfRules form both (λ rules. RunsDecided form rules limits both.graph ran.graph run) → ChangesGraph both ran →
+      OfBoth ran first second (λ t u. Judges written ran.graph v.graph run.stop t u x) → ChangesGraph ran v → AnswersQuestion form read written limits s v left right x
+  answered form written limits ran v run x runs only judged changes = record {
     asked = both;
     first = first;
     second = second;
     adds = both-added;
     ran = ran;
-    ended = ended;
+    run = run;
     runs = runs;
     only_rules = only;
-    judges = of-both ran (λ t u. Judges written ran.graph v.graph ended t u x) only judged;
+    judges = of-both ran (λ t u. Judges written ran.graph v.graph run.stop t u x) only judged;
     only_judges = changes;
   }

@@ -1,10 +1,11 @@
 //! The lines of a workspace, and the answers to them.
 use crate::question::{Verdict, ask};
+use slotted_decided::DecidedLimits;
 use slotted_languages::Language;
 use slotted_messages::Message;
 use slotted_rule_texts::RuleText;
 use slotted_terms::expr::printing::Printable;
-use slotted_workspace::{Limits, Workspace, WorkspaceError};
+use slotted_workspace::{Workspace, WorkspaceError};
 use std::alloc::Global;
 
 /// The answer to a line.
@@ -78,7 +79,7 @@ fn answer_question<L: Printable>(
     if let Some(fault) = first_fault(alloc, workspace, left, right)? {
         return Ok(Answer::Refused(fault));
     }
-    Ok(Answer::Judged(ask(workspace, left, right, Limits::usual())?))
+    Ok(Answer::Judged(ask(workspace, left, right, DecidedLimits::usual())?))
 }
 
 fn assert_equation<L: Language>(

@@ -28,7 +28,9 @@ fn show_answer(rt: &impl Print, answer: &Answer) -> Result<()> {
             "no: it does not follow from the assertions and the instances that the rules made"
         )?,
         Answer::Judged(Verdict::Stopped) => println!(rt; "not decided: a limit stopped the rules")?,
-        Answer::Judged(Verdict::Open) => println!(rt; "not decided: a symmetry is open")?,
+        Answer::Judged(Verdict::Open) => println!(rt;
+            "not decided: the graph has too many symmetries"
+        )?,
         Answer::Refused(fault) => println!(rt; "error: {fault}")?,
         Answer::Unknown => println!(rt; "error: this is no assertion, no rule and no question")?,
     }

@@ -1,11 +1,13 @@
 //! Questions: whether two terms are equal by what was asserted, and by the rules.
 ghost use Rattle.std.specs.Prelude.{IfOk, IfErr, OnOk};
 ghost use Rattle.slotted_workspace.specs.Asked.{ChangesGraph, OfBoth, RefusesBoth};
-ghost use Rattle.slotted_uses.specs.Questions.{AnswersQuestion, Judges, ProofRefused, QuestionRefused};
+ghost use Rattle.slotted_workspace.specs.Decided.{DecideRefused};
+ghost use Rattle.slotted_uses.specs.Questions.{AnswersQuestion, Judges, QuestionRefused};
 
+use slotted_decided::{DecidedLimits, DecidedStop};
 use slotted_languages::Language;
 use slotted_terms::expr::printing::Printable;
-use slotted_workspace::{Handle, Limits, Workspace, WorkspaceError};
+use slotted_workspace::{ExplainedText, Handle, Workspace, WorkspaceError};
 
 /// The answer to a question.
 #[derive(Drop)]
@@ -14,36 +16,35 @@ pub enum Verdict {
     Yes(String),
     /// The run ended saturated, and what is asserted then does not make the terms equal.
     No,
-    /// A limit stopped the run, and the terms are not equal so far.
+    /// A limit stopped the run, and what is asserted so far does not make the terms equal.
     Stopped,
-    /// A symmetry is open, so that a no would say nothing.
+    /// The graph has more symmetries than the limit lets it decide.
     Open,
 }
 
-/// Returns the verdict on two terms, where `ended` says whether the rules ended.
+/// Returns the verdict on two terms, after a run that stopped so.
 pub fn judge<L: Printable>(
     workspace: &mut Workspace<L>,
     left: Handle,
     right: Handle,
-    ended: bool,
+    stop: DecidedStop,
+    limit: usize,
 ) -> Result<Verdict, WorkspaceError>
     ensures ok { IfOk result (λ x. OfBoth workspace.old left right
-        (λ t u. Judges L.written workspace.old.graph workspace.new.graph ended t u x)) }
+        (λ t u. Judges L.written workspace.old.graph workspace.new.graph stop t u x)) }
     ensures rest { OnOk result (ChangesGraph workspace.old workspace.new) }
     ensures err { IfErr result (RefusesBoth workspace.old workspace.new left right
-        (ProofRefused L.written workspace.old.graph workspace.new.graph)) }
+        (λ _ _. DecideRefused workspace.old.graph workspace.new.graph)) }
 {
-    if workspace.eq(left, right)? {
-        return Ok(Verdict::Yes(workspace.explain(left, right)?));
+    match workspace.decided_explain(left, right, limit)? {
+        ExplainedText::Proved(proof) => Ok(Verdict::Yes(proof)),
+        ExplainedText::Undecided => Ok(Verdict::Open),
+        ExplainedText::Unequal => Ok(if stop == DecidedStop::Saturated {
+            Verdict::No
+        } else {
+            Verdict::Stopped
+        }),
     }
-    if !ended {
-        return Ok(Verdict::Stopped);
-    }
-    let symmetries = workspace.symmetries()?;
-    if symmetries.open > 0 {
-        return Ok(Verdict::Open);
-    }
-    Ok(Verdict::No)
 }
 
 /// Adds two terms, runs the rules within limits, and returns the verdict on the terms.
@@ -54,13 +55,13 @@ pub fn ask<L: Printable>(
     workspace: &mut Workspace<L>,
     left: &str,
     right: &str,
-    limits: Limits,
+    limits: DecidedLimits,
 ) -> Result<Verdict, WorkspaceError>
     ensures ok { IfOk result (AnswersQuestion L.form L.read L.written limits workspace.old workspace.new left.now right.now) }
-    ensures err { IfErr result (QuestionRefused L.form L.read L.written limits workspace.old workspace.new left.now right.now) }
+    ensures err { IfErr result (QuestionRefused L.form L.read limits workspace.old workspace.new left.now right.now) }
 {
     let first = workspace.add(left)?;
     let second = workspace.add(right)?;
-    let ended = workspace.saturate(limits)?;
-    judge(workspace, first, second, ended)
+    let report = workspace.run_decided(limits)?;
+    judge(workspace, first, second, report.stop, limits.variants)
 }

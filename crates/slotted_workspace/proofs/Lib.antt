@@ -14,3 +14,4 @@ pub mod Handles
 pub mod Turns
 pub mod Methods
 pub mod Searches
+pub mod Decisions

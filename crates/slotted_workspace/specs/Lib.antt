@@ -7,3 +7,4 @@ pub mod Runs
 pub mod Saturating
 pub mod Turns
 pub mod RuleTexts
+pub mod Decided

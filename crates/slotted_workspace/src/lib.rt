@@ -3,6 +3,7 @@
 //! Terms are named by handles. A handle that does not belong to the workspace is refused, so no call has a condition.
 #![tactic(auto)]
 
+pub mod deciding;
 pub(crate) mod drawing;
 pub mod error;
 pub(crate) mod explaining;
@@ -18,6 +19,7 @@ pub(crate) mod turning;
 pub(crate) mod uniting;
 pub mod workspace;
 
+pub use deciding::ExplainedText;
 pub use error::WorkspaceError;
 pub use extracting::Extracted;
 pub use handle::Handle;

@@ -10,12 +10,14 @@ ghost use Rattle.slotted_slots.specs.Table.{gives, named_of};
 ghost use Rattle.slotted_workspace.specs.Asked.{NamingRefused, UnionRefused, AddsTerm, KeepsRule, RuleRefused};
 ghost use Rattle.slotted_workspace.specs.Asked.{DrawRefused, Draws, ExtractsBy, ExtractByRefused};
 ghost use Rattle.slotted_workspace.specs.Asked.{HasMatches, PatternRefused, ReadsPattern, SearchRefused};
+ghost use Rattle.slotted_workspace.specs.Decided.{DecidedRunRefused, DecideRefused, DecidesGraph, JudgesTerms, ProvesTerms, RunsDecided};
 ghost use Rattle.slotted_workspace.specs.RuleTexts.{KeepsRules, RefusesText};
 ghost use Rattle.slotted_workspace.specs.Runs.{HasRun, OfRules, RunRefused};
 ghost use Rattle.slotted_workspace.specs.Saturating.{HasRulesRun};
 ghost use Rattle.slotted_workspace.specs.Spaces.{empty_space, term_at};
 ghost use Rattle.slotted_workspace.specs.Turns.{TakesTurn, TurnRefused};
 
+use crate::deciding::{ExplainedText, decided, judged, proved, run_rules_decided};
 use crate::drawing::{drawn, dumped};
 use crate::error::WorkspaceError;
 use crate::explaining::{chain, explanation};
@@ -30,6 +32,8 @@ use crate::searching::count_found;
 use crate::turning::take_turn;
 use crate::uniting::{unite, unite_because};
 use slotted_costs::{AstSize, CostFunction};
+use slotted_decided::{DecidedLimits, DecidedRun};
+use slotted_deciding::Verdict;
 use slotted_explain::EGraph;
 use slotted_languages::Language;
 use slotted_patterns::Pattern;
@@ -156,6 +160,34 @@ impl<L: Language> Workspace<L> {
         Ok(self.graph.eq(&left.id, &right.id)?)
     }
 
+    /// Decides the symmetries of the graph: adds and unites what follows from them, and asserts nothing. Returns whether the
+    /// graph is decided. The answer is no only if more than `limit` e-nodes were missing.
+    pub fn decide(&mut self, limit: usize) -> Result<bool, WorkspaceError>
+        ensures ok { IfOk result (DecidesGraph self.old.graph self.new.graph) }
+        ensures rest { OnOk result (ChangesGraph self.old self.new) }
+        ensures err { IfErr result (Refuses self.old self.new (DecideRefused self.old.graph self.new.graph)) }
+    {
+        Ok(decided(self.alloc, &mut self.graph, limit)?)
+    }
+
+    /// Decides the symmetries of the graph, and returns whether two terms are equal by what was asserted. A yes and a no
+    /// are right, without exception. The answer is `Open` only if more than `limit` e-nodes were missing.
+    pub fn decided_eq(
+        &mut self,
+        a: Handle,
+        b: Handle,
+        limit: usize,
+    ) -> Result<Verdict, WorkspaceError>
+        ensures ok { IfOk result (λ v. OfBoth self.old a b
+            (λ t u. JudgesTerms self.old.graph self.new.graph t u v)) }
+        ensures rest { OnOk result (ChangesGraph self.old self.new) }
+        ensures err { IfErr result (RefusesBoth self.old self.new a b
+            (λ _ _. DecideRefused self.old.graph self.new.graph)) }
+    {
+        let (left, right) = both_at(&self.kept, self.number, a, b)?;
+        Ok(judged(self.alloc, &mut self.graph, left, right, limit)?)
+    }
+
     /// Asserts that two terms are equal. Returns true if they were not found equal before.
     pub fn union(&mut self, a: Handle, b: Handle) -> Result<bool, WorkspaceError>
         ensures ok { IfOk result (λ y. OfBoth self.old a b
@@ -262,6 +294,18 @@ impl<L: Language> Workspace<L> {
         Ok(is_saturated(&report.stop_reason))
     }
 
+    /// Decides the graph, and runs all rules in turns, each of which ends with a decision, until one changes nothing or a
+    /// limit is passed. So a turn finds the matches that need a symmetry.
+    pub fn run_decided(&mut self, limits: DecidedLimits) -> Result<DecidedRun, WorkspaceError>
+        ensures ok { IfOk result (λ r. OfRules L.form self.old
+            (λ rules. RunsDecided L.form rules limits self.old.graph self.new.graph r)) }
+        ensures rest { OnOk result (ChangesGraph self.old self.new) }
+        ensures err { IfErr result (Refuses self.old self.new (λ e. OfRules L.form self.old
+            (λ rules. DecidedRunRefused L.form rules self.old.graph self.new.graph e))) }
+    {
+        Ok(run_rules_decided(self.alloc, &mut self.graph, &self.rules, limits)?)
+    }
+
     /// Applies all rules once, and returns what each of them found and united. So a caller can tell the progress of a
     /// run, and stop at limits of its own.
     pub fn turn(&mut self) -> Result<TurnCounts, WorkspaceError>
@@ -336,6 +380,25 @@ impl<L: Printable> Workspace<L> {
     {
         let (left, right) = both_at(&self.kept, self.number, a, b)?;
         Ok(explanation(self.alloc, &mut self.graph, left, right)?)
+    }
+
+    /// Decides the symmetries of the graph, and returns a proof that two terms are equal, if they are: lines that each end
+    /// with a line feed. The last line is the equation of both. The answer is `Undecided` only if more than `limit` e-nodes
+    /// were missing.
+    pub fn decided_explain(
+        &mut self,
+        a: Handle,
+        b: Handle,
+        limit: usize,
+    ) -> Result<ExplainedText, WorkspaceError>
+        ensures ok { IfOk result (λ x. OfBoth self.old a b
+            (λ t u. ProvesTerms L.written self.old.graph self.new.graph t u x)) }
+        ensures rest { OnOk result (ChangesGraph self.old self.new) }
+        ensures err { IfErr result (RefusesBoth self.old self.new a b
+            (λ _ _. DecideRefused self.old.graph self.new.graph)) }
+    {
+        let (left, right) = both_at(&self.kept, self.number, a, b)?;
+        Ok(proved(self.alloc, &mut self.graph, left, right, limit)?)
     }
 
     /// Returns a proof that two terms are equal as a chain of terms: the first term, and for each assertion that is used a

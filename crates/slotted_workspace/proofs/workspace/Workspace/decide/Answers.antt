@@ -1,0 +1,21 @@
+use Rattle.std.proofs.lemmas.Result.{err_from_is_err_and}
+use Rattle.slotted_workspace.specs.Decided.{DecideRefused}
+use Rattle.slotted_workspace.proofs.Methods.{call-refused}
+use Rattle.slotted_workspace.proofs.Staying.{sane-later}
+use Rattle.slotted_workspace.proofs.workspace.Workspace.decide.Goals as goal
+
+pub invariant_of-self : goal.invariant_of-self
+invariant_of-self g c =
+    let w = c.self.inside in
+    sane-later g.L.LanguageChildren.form w.graph c.decided.new.graph w.kept.items w.rules.items c.in_err-decided.ensures.extends c.in_err-decided.ensures.stays c.self.invariant
+
+pub returns-in_err-decided-clause-err : goal.returns-in_err-decided-clause-err
+returns-in_err-decided-clause-err g c =
+    let w = c.self.inside in
+    let p = err_from_is_err_and c.from_residual.result c.from_residual.ensures.1 in
+    rw (p.1, p.2) (call-refused g.L.LanguageChildren.form w.number w.graph w.kept.items w.rules.items c.args.self.now c.self.view_is (λ x. DecideRefused x c.decided.new.graph) c.decided.new.graph c.in_err-decided.field-0.0 c.in_err-decided.ensures.err)
+
+pub invariant_of-self-2 : goal.invariant_of-self-2
+invariant_of-self-2 g c =
+    let w = c.self.inside in
+    sane-later g.L.LanguageChildren.form w.graph c.decided.new.graph w.kept.items w.rules.items c.in_ok-decided.ensures.extends c.in_ok-decided.ensures.stays c.self.invariant
