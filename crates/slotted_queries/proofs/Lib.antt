@@ -1,0 +1,2 @@
+-- What the steps of planning say of its term.
+pub mod Planned

@@ -1,0 +1,9 @@
+use Rattle.std.proofs.Common.{inr}
+use Rattle.slotted_graph.proofs.Saying.{lowers-itself}
+use Rattle.slotted_queries.proofs.planner.EffortHookSpent.call.Goals as goal
+
+pub returns-then-asserted-self-clause-lowers : goal.returns-then-asserted-self-clause-lowers
+returns-then-asserted-self-clause-lowers g c = inr (lowers-itself g.N.Analysis.codes g.N.Analysis.meaning g.met.N.Analysis.is_merge c.args.graph.now)
+
+pub returns-clause-lowers : goal.returns-clause-lowers
+returns-clause-lowers g c = inr (lowers-itself g.N.Analysis.codes g.N.Analysis.meaning g.met.N.Analysis.is_merge c.args.graph.now)

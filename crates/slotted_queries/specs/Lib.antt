@@ -1,0 +1,4 @@
+-- Definitions of queries.
+pub mod RowCost
+pub mod Sides
+pub mod Planning

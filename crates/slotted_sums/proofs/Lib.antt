@@ -1,0 +1,2 @@
+-- What the steps of a simplification say of its term.
+pub mod Simplified

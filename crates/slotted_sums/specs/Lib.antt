@@ -1,0 +1,3 @@
+-- Definitions of sums.
+pub mod LoopCost
+pub mod Simplifying
