@@ -12,8 +12,12 @@ use Rattle.slotted_model.specs.Applied.{Applied}
 use Rattle.slotted_model.proofs.Data.Options.{Some-same}
 use Rattle.slotted_operations.specs.Graph.{Graph}
 use Rattle.slotted_operations.specs.ValidIds.{IsValidId}
+use Rattle.std.specs.Coded.{Coded}
+use Rattle.slotted_analyses.specs.Meaning.{IsMergeOf, Meaning}
+use Rattle.slotted_graph.specs.Analysed.{LowersData}
 use Rattle.slotted_graph.specs.Extension.{ExtendsTo}
 use Rattle.slotted_graph.proofs.Extending.{extends-then}
+use Rattle.slotted_graph.proofs.Saying.{lowers-then}
 use Rattle.slotted_symmetries.specs.Equality.{IsDecidedGraph}
 use Rattle.slotted_rules.specs.Applying.{HasProgressed}
 use Rattle.slotted_rules.specs.Counting.{CountsAndModifies}
@@ -26,12 +30,19 @@ use Rattle.slotted_decided.specs.declared.running.DecidedLimits.{DecidedLimits}
 use Rattle.slotted_decided.specs.declared.running.DecidedRun.{DecidedRun}
 use Rattle.slotted_decided.specs.declared.running.DecidedStop.{DecidedStop}
 use Rattle.slotted_decided.specs.declared.running.DecidedStop.TheVariants.{NodeLimit, Saturated, TurnLimit, Undecided}
+use Rattle.slotted_decided.proofs.SaturatedMatches.{turn-matches}
 use Rattle.slotted_decided.specs.Turns.{EndsStill, GoesDecided, HasRunDecided, IsDecidedTurn, IsStillTurn, is_decided, turn_then}
 
 -- a refused call leaves a failed graph, or one that the turn extends
 pub later-extends : (g f h : Graph) → ExtendsTo g f → IsTrue h.failed ⊎ ExtendsTo f h → IsTrue h.failed ⊎ ExtendsTo g h
 later-extends g f h first (inl failed) = inl failed
 later-extends g f h first (inr more) = inr (extends-then g f h first more)
+
+-- so it is of data
+pub later-lowers : {N D : Type 0} (codes : Coded N × Coded D) (meaning : N → Meaning D) (law : (n : N) → IsMergeOf (meaning n)) (g f h : Graph) → ExtendsTo g f → LowersData codes meaning g f → IsTrue h.failed ⊎ LowersData codes meaning f h →
+    IsTrue h.failed ⊎ LowersData codes meaning g h
+later-lowers codes meaning law g f h extends first (inl failed) = inl failed
+later-lowers codes meaning law g f h extends first (inr more) = inr (lowers-then codes meaning law g f h extends first more)
 
 pub goes-extends : (g h : Graph) → IsTrue h.failed ⊎ GoesTo g h → IsTrue h.failed ⊎ ExtendsTo g h
 goes-extends g h (inl failed) = inl failed
@@ -58,8 +69,18 @@ module _ {L C : Type 0} (form : L → Form) (holds : C → Values → Graph → 
   pub turn-more : (f h : Graph) (turns new : List TurnCounts) (t : TurnCounts) → GoesDecided form holds rules after g turns f → IsDecidedTurn form holds rules after f t h → new ≡ turns ++ t ∷ [] → GoesDecided form holds rules after g new h
   turn-more f h turns new t goes turn is = subst (λ ts. GoesDecided form holds rules after g ts h) (sym is) (turn_then goes turn)
 
-  pub ends-still : (f h : Graph) (turns new : List TurnCounts) (t : TurnCounts) → GoesDecided form holds rules after g turns f → IsDecidedGraph f → IsStillTurn form holds rules after f t h → new ≡ turns ++ t ∷ [] → EndsStill form holds rules after g new h
-  ends-still f h turns new t goes decided still is = record { before = turns; last = t; from = f; turns = is; goes = goes; decided = decided; still = still }
+  pub ends-still : ((a b : Graph) → after a b → ExtendsTo a b) → (f h : Graph) (turns new : List TurnCounts) (t : TurnCounts) → GoesDecided form holds rules after g turns f → IsDecidedGraph f → IsStillTurn form holds rules after f t h → IsDecidedGraph h → new ≡ turns ++ t ∷ [] →
+      EndsStill form holds rules after g new h
+  ends-still modified f h turns new t goes decided still known is = record {
+    before = turns;
+    last = t;
+    from = f;
+    turns = is;
+    goes = goes;
+    decided = decided;
+    still = still;
+    matches = turn-matches form holds rules after modified f h t still known;
+  }
 
 -- a refusal of a turn over a graph that has not failed
 pub refused-rules : (R : Error → Type 0) (e : Error) → e ≢ Failed → (e ≡ Failed) ⊎ IsShortage e ⊎ R e → CanRefuse e ⊎ R e
@@ -90,6 +111,29 @@ is_saturated Undecided = false
 undecided-not_saturated : ¬ (Undecided ≡ Saturated)
 undecided-not_saturated e = false≢true (ap is_saturated e)
 
+-- whether the limit of turns stopped a run
+abbrev is_limit : DecidedStop → Bool
+is_limit TurnLimit = true
+is_limit Saturated = false
+is_limit NodeLimit = false
+is_limit Undecided = false
+
+undecided-not_limit : ¬ (Undecided ≡ TurnLimit)
+undecided-not_limit e = false≢true (ap is_limit e)
+
+-- whether the limit of e-nodes did
+abbrev is_cut : DecidedStop → Bool
+is_cut NodeLimit = true
+is_cut Saturated = false
+is_cut TurnLimit = false
+is_cut Undecided = false
+
+undecided-not_cut : ¬ (Undecided ≡ NodeLimit)
+undecided-not_cut e = false≢true (ap is_cut e)
+
+limit-not_cut : ¬ (TurnLimit ≡ NodeLimit)
+limit-not_cut e = false≢true (ap is_cut e)
+
 limit-not_saturated : ¬ (TurnLimit ≡ Saturated)
 limit-not_saturated e = false≢true (ap is_saturated e)
 
@@ -104,31 +148,37 @@ module _ {L C : Type 0} (form : L → Form) (holds : C → Values → Graph → 
     run-begins g f h r first run = record {
       turns = begins g f first run.turns;
       few = run.few;
+      full = run.full;
+      cut = run.cut;
       decided = run.decided;
-      saturated = λ s. let e = run.saturated s in record { before = e.before; last = e.last; from = e.from; turns = e.turns; goes = begins g f first e.goes; decided = e.decided; still = e.still };
+      saturated = λ s. let e = run.saturated s in record { before = e.before; last = e.last; from = e.from; turns = e.turns; goes = begins g f first e.goes; decided = e.decided; still = e.still; matches = e.matches };
     }
 
     pub run-undecided : (g h : Graph) (r : DecidedRun) → GoesTo g h → r.turns.items ≡ [] → r.stop ≡ Undecided → HasRunDecided form holds rules after limits g h r
     run-undecided g h r goes none is = record {
       turns = no-turns form holds rules after g h r.turns.items none goes;
       few = subst (λ (ts : List TurnCounts). length ts ≤ limits.turns) (sym none) (omega arith);
+      full = λ s. absurd (undecided-not_limit (sym is ∙ s));
+      cut = λ s. absurd (undecided-not_cut (sym is ∙ s));
       decided = λ other. absurd (other is);
       saturated = λ s. absurd (undecided-not_saturated (sym is ∙ s));
     }
 
     -- a turn that stops the run
-    pub run-stopped : (g f h : Graph) (turns : List TurnCounts) (t : TurnCounts) (r : DecidedRun) → GoesDecided form holds rules after g turns f → IsDecidedGraph f → IsDecidedTurn form holds rules after f t h → r.turns.items ≡ turns ++ t ∷ [] →
-        length turns < limits.turns → (r.stop ≢ Undecided → IsDecidedGraph h) → (r.stop ≡ Saturated → IsStillTurn form holds rules after f t h) → HasRunDecided form holds rules after limits g h r
-    run-stopped g f h turns t r goes decided turn is few known still = record {
+    pub run-stopped : ((a b : Graph) → after a b → ExtendsTo a b) → (g f h : Graph) (turns : List TurnCounts) (t : TurnCounts) (r : DecidedRun) → GoesDecided form holds rules after g turns f → IsDecidedGraph f → IsDecidedTurn form holds rules after f t h → r.turns.items ≡ turns ++ t ∷ [] →
+        length turns < limits.turns → (r.stop ≢ Undecided → IsDecidedGraph h) → (r.stop ≡ Saturated → IsStillTurn form holds rules after f t h) → r.stop ≢ TurnLimit → (r.stop ≡ NodeLimit → limits.nodes < length h.filed) → HasRunDecided form holds rules after limits g h r
+    run-stopped modified g f h turns t r goes decided turn is few known still other past = record {
       turns = turn-more form holds rules after g f h turns r.turns.items t goes turn is;
       few = omega (arith, few, ap length is, length-append turns (t ∷ []));
+      full = λ s. absurd (other s);
+      cut = past;
       decided = known;
-      saturated = λ s. ends-still form holds rules after g f h turns r.turns.items t goes decided (still s) is;
+      saturated = λ s. ends-still form holds rules after g modified f h turns r.turns.items t goes decided (still s) (known (λ other. undecided-not_saturated (sym other ∙ s))) is;
     }
 
     -- the limit of turns
-    pub run-limited : (g h : Graph) (r : DecidedRun) → GoesDecided form holds rules after g r.turns.items h → length r.turns.items ≤ limits.turns → IsDecidedGraph h → r.stop ≡ TurnLimit → HasRunDecided form holds rules after limits g h r
-    run-limited g h r goes few decided is = record { turns = goes; few = few; decided = λ other. decided; saturated = λ s. absurd (limit-not_saturated (sym is ∙ s)) }
+    pub run-limited : (g h : Graph) (r : DecidedRun) → GoesDecided form holds rules after g r.turns.items h → length r.turns.items ≡ limits.turns → IsDecidedGraph h → r.stop ≡ TurnLimit → HasRunDecided form holds rules after limits g h r
+    run-limited g h r goes full decided is = record { turns = goes; few = omega (arith, full); full = λ s. full; cut = λ s. absurd (limit-not_cut (sym is ∙ s)); decided = λ other. decided; saturated = λ s. absurd (limit-not_saturated (sym is ∙ s)) }
 
 -- of why a turn stops the run
 pub stop-known : (o : Option DecidedStop) (s : DecidedStop) → o ≡ Some s → s ≢ Undecided → o ≢ Some Undecided
@@ -140,6 +190,11 @@ never-undecided o is e = false≢true (sym (ap is_some is) ∙ ap is_some e)
 not_true : (b : Bool) → ¬ IsTrue b → b ≡ false
 not_true true n = absurd (n refl)
 not_true false n = refl
+
+-- what holds unless a graph has failed holds of one that has not
+pub unless-failed : {P : Type 0} (b : Bool) → b ≡ false → IsTrue b ⊎ P → P
+unless-failed b well (inl failed) = absurd (false≢true (sym well ∙ failed))
+unless-failed b well (inr p) = p
 
 -- a turn that was taken leaves a graph that has not failed, and that extends the one before
 pub well-extends : {A : Type 0} (f h : Graph) (r : Result A Error) (x : A) → r ≡ Ok x → IsTrue h.failed ⊎ ExtendsTo f h → (IsTrue h.failed → IsErr r) → (h.failed ≡ false) × ExtendsTo f h

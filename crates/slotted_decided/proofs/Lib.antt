@@ -1,3 +1,4 @@
 pub mod DecidedTurns
 pub mod Origins
 pub mod LeastOfEqual
+pub mod SaturatedMatches

@@ -1,9 +1,10 @@
 //! Extraction from a graph that is decided first.
-ghost use Rattle.std.specs.Prelude.{◌≡◌, ◌⊎◌, ◌↔◌, IfErr, IfOk, IsErrOf, IsTrue, OnOk};
+ghost use Rattle.std.specs.Prelude.{◌≡◌, ◌⊎◌, ◌↔◌, IfErr, IfOk, IsErrOf, IsTrue};
 ghost use Rattle.slotted_costs.specs.Costs.{MayRefuse, cost_of_term, costs_by};
 ghost use Rattle.slotted_terms.specs.Valid.{IsValidTerm};
 ghost use Rattle.slotted_proofs.specs.Equations.{to_applied};
 ghost use Rattle.slotted_operations.specs.ValidIds.{IsValidId};
+ghost use Rattle.slotted_graph.specs.Analysed.{LowersData};
 ghost use Rattle.slotted_deciding.specs.Steps.{CanRefuse, GoesTo};
 ghost use Rattle.slotted_decided.specs.Extracted.{IsLeastDecided};
 
@@ -43,7 +44,11 @@ pub fn extract_decided<L: Language, N: Analysis<L>, CF: CostFunction<L>>(
     ensures least { IfOk result (λ t. IsLeastDecided (costs_by CF.Cost.cmp (CF.node_cost costs)) graph.old graph.new
         (to_applied i.now) t.term t.is_decided) }
     ensures cost { IfOk result (λ t. t.cost ≡ cost_of_term (costs_by CF.Cost.cmp (CF.node_cost costs)) t.term) }
-    ensures goes { OnOk result (GoesTo graph.old graph.new) }
+
+    // What was there stays, and nothing is asserted. Data of the analysis only goes down.
+    ensures goes { IsTrue graph.new.failed ⊎ GoesTo graph.old graph.new }
+    ensures lowers { IsTrue graph.new.failed ⊎ LowersData N.codes N.meaning graph.old graph.new }
+
     ensures valid { IfOk result (λ t. IsValidTerm graph.new.table t.term) }
     ensures stays { IsTrue graph.old.failed → graph.new ≡ graph.old }
     ensures failed { IsErrOf result Error.Failed ↔ IsTrue graph.old.failed }

@@ -1,6 +1,7 @@
 //! Turns of rules, each followed by a decision.
-ghost use Rattle.std.specs.Prelude.{◌≡◌, ◌≢◌, ◌⊎◌, ◌↔◌, false, All, IfErr, IfOk, IsErr, IsErrOf, IsTrue, Some};
+ghost use Rattle.std.specs.Prelude.{◌≡◌, ◌≢◌, ◌⊎◌, ◌↔◌, ◌<◌, false, length, All, IfErr, IfOk, IsErr, IsErrOf, IsTrue, Some};
 ghost use Rattle.slotted_slots.specs.Error.{IsShortage};
+ghost use Rattle.slotted_graph.specs.Analysed.{LowersData};
 ghost use Rattle.slotted_graph.specs.Extension.{ExtendsTo};
 ghost use Rattle.slotted_symmetries.specs.Equality.{IsDecidedGraph};
 ghost use Rattle.slotted_rules.specs.Applying.{AreModified, AreRefusedBy};
@@ -82,6 +83,7 @@ fn stop_of(is_decided: bool, is_still: bool, nodes: usize, limit: usize) -> Opti
     ensures undecided { result ≢ Some DecidedStop.Undecided → IsTrue is_decided }
     ensures still { result ≡ Some DecidedStop.Saturated → IsTrue is_still }
     ensures turns { result ≢ Some DecidedStop.TurnLimit }
+    ensures nodes { result ≡ Some DecidedStop.NodeLimit → limit < nodes }
 {
     if !is_decided {
         Some(DecidedStop::Undecided)
@@ -109,7 +111,9 @@ fn take_turn<L: Language, N: Analysis<L>, C: Cond<L, N>>(
     ensures still { IfOk result (λ t. t.stop ≡ Some DecidedStop.Saturated → IsStillTurn L.form C.answers rules.now
         (AreModified N.codes N.meaning N.may_ask N.modifies) graph.old t.counts graph.new) }
     ensures turns { IfOk result (λ t. t.stop ≢ Some DecidedStop.TurnLimit) }
+    ensures nodes { IfOk result (λ t. t.stop ≡ Some DecidedStop.NodeLimit → limits.nodes < length graph.new.filed) }
     ensures extends { IsTrue graph.new.failed ⊎ ExtendsTo graph.old graph.new }
+    ensures lowers { IsTrue graph.new.failed ⊎ LowersData N.codes N.meaning graph.old graph.new }
     ensures fails { IsTrue graph.new.failed → IsErr result }
     ensures err { IfErr result (λ e. CanRefuse e ⊎ AreRefusedBy (RefusesRule L.form C.refuses) rules.now e) }
 {
@@ -137,6 +141,7 @@ fn take_turns<L: Language, N: Analysis<L>, C: Cond<L, N>>(
     ensures run { IfOk result (HasRunDecided L.form C.answers rules.now
         (AreModified N.codes N.meaning N.may_ask N.modifies) limits graph.old graph.new) }
     ensures extends { IsTrue graph.new.failed ⊎ ExtendsTo graph.old graph.new }
+    ensures lowers { IsTrue graph.new.failed ⊎ LowersData N.codes N.meaning graph.old graph.new }
     ensures fails { IsTrue graph.new.failed → IsErr result }
     ensures err { IfErr result (λ e. CanRefuse e ⊎ AreRefusedBy (RefusesRule L.form C.refuses) rules.now e) }
 {
@@ -169,12 +174,14 @@ pub fn run_decided<L: Language, N: Analysis<L>, C: Cond<L, N>>(
     requires { IsTrue graph.old.failed ⊎ All (CanBeSearched L.form graph.old.table) rules.now }
 
     // What is asserted comes from matches of the rules, or from edits. Unless a decision met its limit, the graph is
-    // decided. If the run is saturated, the last turn changed nothing.
+    // decided. A limit stops the run only once it is reached. If the run is saturated, the last turn changed nothing, and each match that its searches found has
+    // instances of both sides that are equal up to symmetries, unless its condition is no.
     ensures run { IfOk result (HasRunDecided L.form C.answers rules.now
         (AreModified N.codes N.meaning N.may_ask N.modifies) limits graph.old graph.new) }
 
-    // What was there stays, even if a turn is refused.
+    // What was there stays, even if a turn is refused, and data of the analysis only goes down.
     ensures extends { IsTrue graph.new.failed ⊎ ExtendsTo graph.old graph.new }
+    ensures lowers { IsTrue graph.new.failed ⊎ LowersData N.codes N.meaning graph.old graph.new }
     ensures stays { IsTrue graph.old.failed → graph.new ≡ graph.old }
     ensures failed { IsErrOf result Error.Failed ↔ IsTrue graph.old.failed }
     ensures fails { IsTrue graph.new.failed → IsErr result }

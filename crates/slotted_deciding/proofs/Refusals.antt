@@ -29,12 +29,16 @@ module _ {A : Type 0} (g k h : Graph) (o r : Result A Error) (same : r ≡ o) (r
       by (Ok x) done p = subst (P x) (sym (done refl)) p
       by (Err e) done p = tt
 
-  pub left-goes : OnOk o (GoesTo g k) → IsTrue h.failed ⊎ GoesTo g h
-  left-goes goes = by o refused done goes
+  -- so is what holds of the graph itself
+  pub left-holds : (P : Graph → Type 0) → OnOk o (P k) → IsTrue h.failed ⊎ P h
+  left-holds P holds = by o refused done holds
     where
-      by : (o : Result A Error) → (IsErr o → h ≡ record k { failed = true }) → (IsOk o → h ≡ k) → OnOk o (GoesTo g k) → IsTrue h.failed ⊎ GoesTo g h
-      by (Ok x) refused done p = inr (subst (GoesTo g) (sym (done refl)) p)
+      by : (o : Result A Error) → (IsErr o → h ≡ record k { failed = true }) → (IsOk o → h ≡ k) → OnOk o (P k) → IsTrue h.failed ⊎ P h
+      by (Ok x) refused done p = inr (subst P (sym (done refl)) p)
       by (Err e) refused done p = inl (ap (λ (x : Graph). x.failed) (refused refl))
+
+  pub left-goes : OnOk o (GoesTo g k) → IsTrue h.failed ⊎ GoesTo g h
+  left-goes goes = left-holds (GoesTo g) goes
 
   -- the graph that is left has failed exactly where the call was refused
   pub left-fails : OnOk o (GoesTo g k) → IsTrue h.failed ↔ IsErr r

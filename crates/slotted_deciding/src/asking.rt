@@ -6,7 +6,8 @@ ghost use Rattle.slotted_operations.specs.Graph.{IsFullId};
 ghost use Rattle.slotted_operations.specs.ValidIds.{IsValidId};
 ghost use Rattle.slotted_graph.specs.States.{IsGraph};
 ghost use Rattle.slotted_deciding.specs.Asking.{AreEqual, IsExplained, IsExplainedOf, IsJudged, StandsFor};
-ghost use Rattle.slotted_deciding.specs.Steps.{CanRefuse, GoesTo};
+ghost use Rattle.slotted_graph.specs.Analysed.{LowersData};
+ghost use Rattle.slotted_deciding.specs.Steps.{CanRefuse, GoesTo, LeadsTo};
 
 use crate::deciding::decide;
 use crate::failing::failing;
@@ -54,7 +55,7 @@ fn judge<L: Language, N: Analysis<L>>(
     requires left { IsValidId graph.old (to_applied a.now) }
     requires right { IsValidId graph.old (to_applied b.now) }
     ensures judged { IfOk result (IsJudged graph.new.image (to_applied a.now) (to_applied b.now)) }
-    ensures goes { OnOk result (GoesTo graph.old graph.new) }
+    ensures goes { OnOk result (LeadsTo N.codes N.meaning graph.old graph.new) }
     ensures err { IfErr result CanRefuse }
 {
     let is_decided = decide(alloc, graph, limit)?;
@@ -81,8 +82,9 @@ pub fn decided_eq<L: Language, N: Analysis<L>>(
     requires right { IsTrue graph.old.failed ⊎ IsValidId graph.old (to_applied b.now) }
     ensures judged { IfOk result (IsJudged graph.new.image (to_applied a.now) (to_applied b.now)) }
 
-    // What was there stays, and nothing is asserted.
+    // What was there stays, and nothing is asserted. Data of the analysis only goes down.
     ensures goes { IsTrue graph.new.failed ⊎ GoesTo graph.old graph.new }
+    ensures lowers { IsTrue graph.new.failed ⊎ LowersData N.codes N.meaning graph.old graph.new }
 
     ensures stays { IsTrue graph.old.failed → graph.new ≡ graph.old }
     ensures failed { IsErrOf result Error.Failed ↔ IsTrue graph.old.failed }
@@ -114,7 +116,7 @@ fn add_both<L: Language, N: Analysis<L>>(
     requires second { IsValidTerm graph.old.table right.now }
     ensures left { IfOk result (λ both. StandsFor graph.new (to_applied both.left) left.now) }
     ensures right { IfOk result (λ both. StandsFor graph.new (to_applied both.right) right.now) }
-    ensures goes { OnOk result (GoesTo graph.old graph.new) }
+    ensures goes { OnOk result (LeadsTo N.codes N.meaning graph.old graph.new) }
     ensures err { IfErr result CanRefuse }
 {
     let one = graph.add_syn_expr_quietly(left)?;
@@ -138,7 +140,7 @@ fn prove_both<L: Language, N: Analysis<L>>(
     requires right { IsFullId graph.old (to_applied both.now.right) }
     requires equal { AreEqual graph.old.image (to_applied both.now.left) (to_applied both.now.right) }
     ensures explained { IfOk result (IsExplainedOf graph.new.image (to_applied both.now.left) (to_applied both.now.right)) }
-    ensures goes { OnOk result (GoesTo graph.old graph.new) }
+    ensures goes { OnOk result (LeadsTo N.codes N.meaning graph.old graph.new) }
     ensures err { IfErr result CanRefuse }
 {
     match proof_between(alloc, graph, &both.left, &both.right)? {
@@ -158,7 +160,7 @@ fn explain_both<L: Language, N: Analysis<L>>(
     requires left { IsFullId graph.old (to_applied both.now.left) }
     requires right { IsFullId graph.old (to_applied both.now.right) }
     ensures explained { IfOk result (IsExplainedOf graph.new.image (to_applied both.now.left) (to_applied both.now.right)) }
-    ensures goes { OnOk result (GoesTo graph.old graph.new) }
+    ensures goes { OnOk result (LeadsTo N.codes N.meaning graph.old graph.new) }
     ensures err { IfErr result CanRefuse }
 {
     match judge(alloc, graph, &both.left, &both.right, limit)? {
@@ -180,7 +182,7 @@ fn explain_terms<L: Language, N: Analysis<L>>(
     requires left { IsValidTerm graph.old.table left.now }
     requires right { IsValidTerm graph.old.table right.now }
     ensures explained { IfOk result (IsExplained graph.new.image left.now right.now) }
-    ensures goes { OnOk result (GoesTo graph.old graph.new) }
+    ensures goes { OnOk result (LeadsTo N.codes N.meaning graph.old graph.new) }
     ensures err { IfErr result CanRefuse }
 {
     let both = add_both(graph, left, right)?;
@@ -202,8 +204,9 @@ pub fn decided_explain<L: Language, N: Analysis<L>>(
     requires right { IsTrue graph.old.failed ⊎ IsValidTerm graph.old.table right.now }
     ensures explained { IfOk result (IsExplained graph.new.image left.now right.now) }
 
-    // What was there stays, and nothing is asserted.
+    // What was there stays, and nothing is asserted. Data of the analysis only goes down.
     ensures goes { IsTrue graph.new.failed ⊎ GoesTo graph.old graph.new }
+    ensures lowers { IsTrue graph.new.failed ⊎ LowersData N.codes N.meaning graph.old graph.new }
 
     ensures stays { IsTrue graph.old.failed → graph.new ≡ graph.old }
     ensures failed { IsErrOf result Error.Failed ↔ IsTrue graph.old.failed }

@@ -2,7 +2,8 @@
 ghost use Rattle.std.specs.Prelude.{◌≡◌, ◌⊎◌, ◌↔◌, [], IfErr, IfOk, IsErr, IsErrOf, IsNone, IsTrue, OnOk};
 ghost use Rattle.slotted_graph.specs.States.{IsGraph};
 ghost use Rattle.slotted_symmetries.specs.Equality.{IsDecidedGraph};
-ghost use Rattle.slotted_deciding.specs.Steps.{CanRefuse, GoesTo};
+ghost use Rattle.slotted_graph.specs.Analysed.{LowersData};
+ghost use Rattle.slotted_deciding.specs.Steps.{CanRefuse, GoesTo, LeadsTo};
 
 use crate::failing::failing;
 use crate::settling::{Missing, first_missing};
@@ -21,7 +22,7 @@ fn any_missing<L: Language, N: Analysis<L>>(
 ) -> Result<Option<Missing<L>>, Error>
     requires graph { IsGraph graph.old }
     ensures none { IfOk result (λ o. IsNone o → IsDecidedGraph graph.new) }
-    ensures goes { OnOk result (GoesTo graph.old graph.new) }
+    ensures goes { OnOk result (LeadsTo N.codes N.meaning graph.old graph.new) }
     ensures err { IfErr result CanRefuse }
 {
     if let Some(missing) = first_missing(alloc, graph, first)? {
@@ -38,7 +39,7 @@ fn settle<L: Language, N: Analysis<L>>(
 ) -> Result<bool, Error>
     requires graph { IsGraph graph.old }
     ensures decided { IfOk result (λ y. IsTrue y → IsDecidedGraph graph.new) }
-    ensures goes { OnOk result (GoesTo graph.old graph.new) }
+    ensures goes { OnOk result (LeadsTo N.codes N.meaning graph.old graph.new) }
     ensures err { IfErr result CanRefuse }
 {
     let mut first = 0;
@@ -68,8 +69,9 @@ pub fn decide<L: Language, N: Analysis<L>>(
     // A graph that met no symmetry is decided as it is.
     ensures none_met { graph.old.image.symmetries ≡ [] → IfOk result IsTrue × (graph.new ≡ graph.old) }
 
-    // What was there stays, and nothing is asserted.
+    // What was there stays, and nothing is asserted. Data of the analysis only goes down.
     ensures goes { IsTrue graph.new.failed ⊎ GoesTo graph.old graph.new }
+    ensures lowers { IsTrue graph.new.failed ⊎ LowersData N.codes N.meaning graph.old graph.new }
 
     ensures stays { IsTrue graph.old.failed → graph.new ≡ graph.old }
     ensures failed { IsErrOf result Error.Failed ↔ IsTrue graph.old.failed }

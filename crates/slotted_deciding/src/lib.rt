@@ -8,6 +8,7 @@
 pub mod asking;
 pub mod deciding;
 pub(crate) mod failing;
+pub mod grouping;
 pub mod proving;
 pub mod settling;
 pub(crate) mod stepping;

@@ -4,7 +4,7 @@ ghost use Rattle.slotted_model.specs.ProofList.{equation_of};
 ghost use Rattle.slotted_proofs.specs.Equations.{to_applied};
 ghost use Rattle.slotted_operations.specs.Explaining.{StandsAt};
 ghost use Rattle.slotted_graph.specs.States.{IsGraph};
-ghost use Rattle.slotted_deciding.specs.Steps.{CanRefuse, GoesTo};
+ghost use Rattle.slotted_deciding.specs.Steps.{CanRefuse, LeadsTo};
 
 use slotted_analyses::Analysis;
 use slotted_graph::{Check, EGraph};
@@ -20,7 +20,7 @@ pub(crate) fn checked<L: Language, N: Analysis<L>, S: Check>(
     equation: &Equation,
 ) -> Result<ProvenEq, Error>
     requires graph { IsGraph graph.old }
-    ensures goes { OnOk result (GoesTo graph.old graph.new) }
+    ensures goes { OnOk result (LeadsTo N.codes N.meaning graph.old graph.new) }
     ensures stands { IfOk result (λ p. StandsAt graph.new.image p
         (equation_of (to_applied equation.now.l) (to_applied equation.now.r))) }
     ensures err { IfErr result CanRefuse }
@@ -37,7 +37,7 @@ pub(crate) fn explained<L: Language, N: Analysis<L>>(
     b: &AppliedId,
 ) -> Result<ProvenEq, Error>
     requires graph { IsGraph graph.old }
-    ensures goes { OnOk result (GoesTo graph.old graph.new) }
+    ensures goes { OnOk result (LeadsTo N.codes N.meaning graph.old graph.new) }
     ensures stands { IfOk result (λ p. StandsAt graph.new.image p (equation_of (to_applied a.now) (to_applied b.now))) }
     ensures err { IfErr result CanRefuse }
 {
@@ -59,7 +59,7 @@ fn add_fresh<L: Language, N: Analysis<L>>(
     m: &SlotMap,
 ) -> Result<(), Error>
     requires graph { IsGraph graph.old }
-    ensures goes { OnOk result (GoesTo graph.old graph.new) }
+    ensures goes { OnOk result (LeadsTo N.codes N.meaning graph.old graph.new) }
     ensures err { IfErr result CanRefuse }
 {
     for i in 0..m.len() {
@@ -95,7 +95,7 @@ fn names_for<L: Language, N: Analysis<L>>(
     id: &AppliedId,
 ) -> Result<SlotMap, Error>
     requires graph { IsGraph graph.old }
-    ensures goes { OnOk result (GoesTo graph.old graph.new) }
+    ensures goes { OnOk result (LeadsTo N.codes N.meaning graph.old graph.new) }
     ensures err { IfErr result CanRefuse }
 {
     if !graph.is_valid(&sides.l) {
@@ -127,7 +127,8 @@ fn renamed(alloc: Global, sides: &Equation, names: &SlotMap) -> Result<Equation,
     Ok(Equation { l, r })
 }
 
-// Returns the equation of a symmetry, or this turned round.
+// Returns the equation by which a symmetry was proved, or this turned round. It is over all slots of its classes, also
+// over those that were dropped before the symmetry was met.
 fn sides_of<L: Language, N: Analysis<L>>(
     alloc: Global,
     graph: &EGraph<L, N>,
@@ -139,7 +140,11 @@ fn sides_of<L: Language, N: Analysis<L>>(
     let Some(symmetry) = graph.symmetries_met().get(symmetry) else {
         return Err(Error::BadStep);
     };
-    let Equation { l, r } = symmetry.equation.copy(alloc)?;
+    let proofs = graph.proofs();
+    if symmetry.proof.number() >= proofs.len() {
+        return Err(Error::BadStep);
+    }
+    let Equation { l, r } = proofs.equ(symmetry.proof).copy(alloc)?;
     if forwards {
         return Ok(Equation { l, r });
     }
@@ -154,7 +159,7 @@ fn proof_of<L: Language, N: Analysis<L>>(
     sides: &Equation,
 ) -> Result<ProvenEq, Error>
     requires graph { IsGraph graph.old }
-    ensures goes { OnOk result (GoesTo graph.old graph.new) }
+    ensures goes { OnOk result (LeadsTo N.codes N.meaning graph.old graph.new) }
     ensures err { IfErr result CanRefuse }
 {
     let Some(symmetry) = graph.symmetries_met().get(symmetry) else {
@@ -177,7 +182,7 @@ pub(crate) fn joined<L: Language, N: Analysis<L>>(
     proofs: (ProvenEq, ProvenEq, ProvenEq),
 ) -> Result<ProvenEq, Error>
     requires graph { IsGraph graph.old }
-    ensures goes { OnOk result (GoesTo graph.old graph.new) }
+    ensures goes { OnOk result (LeadsTo N.codes N.meaning graph.old graph.new) }
     ensures stands { IfOk result (λ p. StandsAt graph.new.image p
         (equation_of (to_applied equation.now.l) (to_applied equation.now.r))) }
     ensures err { IfErr result CanRefuse }
@@ -200,7 +205,7 @@ pub(crate) fn step_by<L: Language, N: Analysis<L>>(
     equation: &Equation,
 ) -> Result<ProvenEq, Error>
     requires graph { IsGraph graph.old }
-    ensures goes { OnOk result (GoesTo graph.old graph.new) }
+    ensures goes { OnOk result (LeadsTo N.codes N.meaning graph.old graph.new) }
     ensures stands { IfOk result (λ p. StandsAt graph.new.image p
         (equation_of (to_applied equation.now.l) (to_applied equation.now.r))) }
     ensures err { IfErr result CanRefuse }

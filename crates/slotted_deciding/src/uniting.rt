@@ -4,7 +4,7 @@ ghost use Rattle.slotted_model.specs.ProofList.{equation_of};
 ghost use Rattle.slotted_proofs.specs.Equations.{to_applied};
 ghost use Rattle.slotted_operations.specs.Explaining.{StandsAt};
 ghost use Rattle.slotted_graph.specs.States.{IsGraph};
-ghost use Rattle.slotted_deciding.specs.Steps.{CanRefuse, GoesTo};
+ghost use Rattle.slotted_deciding.specs.Steps.{CanRefuse, LeadsTo};
 
 use crate::settling::Missing;
 use crate::stepping::{checked, explained, step_by};
@@ -25,7 +25,7 @@ fn part_of<L: Language, N: Analysis<L>>(
     equation: &Equation,
 ) -> Result<ProvenEq, Error>
     requires graph { IsGraph graph.old }
-    ensures goes { OnOk result (GoesTo graph.old graph.new) }
+    ensures goes { OnOk result (LeadsTo N.codes N.meaning graph.old graph.new) }
     ensures err { IfErr result CanRefuse }
 {
     let variant = &missing.variant;
@@ -43,7 +43,7 @@ fn parts_of<L: Language, N: Analysis<L>>(
     equations: &[Equation],
 ) -> Result<Vec<ProvenEq>, Error>
     requires graph { IsGraph graph.old }
-    ensures goes { OnOk result (GoesTo graph.old graph.new) }
+    ensures goes { OnOk result (LeadsTo N.codes N.meaning graph.old graph.new) }
     ensures err { IfErr result CanRefuse }
 {
     let mut parts = Vec::new(alloc);
@@ -61,7 +61,7 @@ fn prove_variant<L: Language, N: Analysis<L>>(
     equation: &Equation,
 ) -> Result<ProvenEq, Error>
     requires graph { IsGraph graph.old }
-    ensures goes { OnOk result (GoesTo graph.old graph.new) }
+    ensures goes { OnOk result (LeadsTo N.codes N.meaning graph.old graph.new) }
     ensures err { IfErr result CanRefuse }
     ensures stands { IfOk result (λ p. StandsAt graph.new.image p
         (equation_of (to_applied equation.now.l) (to_applied equation.now.r))) }
@@ -86,7 +86,7 @@ fn unite_proved<L: Language, N: Analysis<L>>(
     requires graph { IsGraph graph.old }
     requires stands { StandsAt graph.old.image proof
         (equation_of (to_applied equation.now.l) (to_applied equation.now.r)) }
-    ensures goes { OnOk result (GoesTo graph.old graph.new) }
+    ensures goes { OnOk result (LeadsTo N.codes N.meaning graph.old graph.new) }
     ensures err { IfErr result CanRefuse }
 {
     if !graph.is_full(&equation.l) {
@@ -109,7 +109,7 @@ pub fn unite_missing<L: Language, N: Analysis<L>>(
     missing: &Missing<L>,
 ) -> Result<(), Error>
     requires graph { IsGraph graph.old }
-    ensures goes { OnOk result (GoesTo graph.old graph.new) }
+    ensures goes { OnOk result (LeadsTo N.codes N.meaning graph.old graph.new) }
     ensures err { IfErr result CanRefuse }
 {
     if !graph.is_valid_node(&missing.variant.node) {

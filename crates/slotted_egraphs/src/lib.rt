@@ -12,10 +12,14 @@ pub mod slot_map;
 
 pub use slotted_analyses::Analysis;
 pub use slotted_analyses::Edit;
+pub use slotted_backoff::Backoff;
+pub use slotted_backoff::are_resting;
 pub use slotted_classes::RebuildCount;
 pub use slotted_decided::DecidedLimits;
 pub use slotted_decided::DecidedRun;
 pub use slotted_decided::DecidedStop;
+pub use slotted_decided::LeastTerm;
+pub use slotted_decided::extract_decided;
 pub use slotted_decided::run_decided;
 pub use slotted_deciding::Explained;
 pub use slotted_deciding::Verdict;

@@ -7,7 +7,7 @@ ghost use Rattle.slotted_graph.specs.Graph.{OnlyTakesSlots};
 ghost use Rattle.slotted_explain.specs.Printed.{IsProofText, MakesForProof, ProofRunsOut};
 ghost use Rattle.slotted_explain.specs.Chain.{ChainRunsOut, MakesForChain};
 
-use crate::flat::chain_text;
+use crate::flat::{ChainForm, chain_text};
 use crate::print::lines_text;
 use crate::steps::flat_steps;
 use slotted_analyses::Analysis;
@@ -95,6 +95,31 @@ pub trait Explanation {
         ensures failed { IsErrOf result Error.Failed ↔ IsTrue graph.old.failed }
         ensures full { IsErrOf result Error.OutOfSlots → ChainRunsOut graph.old graph.new (number self) }
         ensures only { IfErr result (λ e. (e ≡ Error.Failed) ⊎ IsShortage e) };
+
+    /// Returns the proof as a chain of terms for people. For each assertion that the proof uses, in the order of use, it
+    /// has the whole term before that step, `  = by J`, and the whole term after it, each in a line of its own. A proof
+    /// that uses none has the term alone.
+    ///
+    /// In both terms the smallest place that the step changes stands between `[` and `]`, as slotted_changes marks it. A
+    /// term whose line stands already is not written again. J is the text of the assertion, or `-` if it has none, with
+    /// `, backwards` if it is used from right to left. The terms are those of `to_flat_string`. Bound names stay from
+    /// line to line as far as the terms have the same e-nodes, as by `named_like` of slotted_changes.
+    fn to_marked_string<L: Printable, N: Analysis<L>>(
+        self,
+        alloc: Global,
+        graph: &mut EGraph<L, N>,
+    ) -> Result<String, Error>
+        requires { IsTrue graph.old.failed ⊎ (number self < length graph.old.image.entries) }
+
+        // Only fresh slots are made, no more than the terms of the chain have binders. An error does not fail the
+        // graph.
+        ensures takes { OnlyTakesSlots graph.old graph.new }
+        ensures stays { IsTrue graph.old.failed → graph.new ≡ graph.old }
+        ensures count { MakesForChain graph.old graph.new (number self) }
+
+        ensures failed { IsErrOf result Error.Failed ↔ IsTrue graph.old.failed }
+        ensures full { IsErrOf result Error.OutOfSlots → ChainRunsOut graph.old graph.new (number self) }
+        ensures only { IfErr result (λ e. (e ≡ Error.Failed) ⊎ IsShortage e) };
 }
 
 impl Explanation for ProvenEq {
@@ -141,7 +166,20 @@ impl Explanation for ProvenEq {
             return Err(Error::Failed);
         }
         let steps = flat_steps(alloc, graph.proofs(), self)?;
-        let text = chain_text(alloc, graph, self, &steps)?;
+        let text = chain_text(alloc, graph, self, &steps, ChainForm::Flat)?;
+        Ok(text)
+    }
+
+    fn to_marked_string<L: Printable, N: Analysis<L>>(
+        self,
+        alloc: Global,
+        graph: &mut EGraph<L, N>,
+    ) -> Result<String, Error> {
+        if graph.is_failed() {
+            return Err(Error::Failed);
+        }
+        let steps = flat_steps(alloc, graph.proofs(), self)?;
+        let text = chain_text(alloc, graph, self, &steps, ChainForm::Marked)?;
         Ok(text)
     }
 }

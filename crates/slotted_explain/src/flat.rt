@@ -8,22 +8,33 @@ ghost use Rattle.slotted_explain.specs.Chain.{MakesForStep, MakesForSteps, Makes
 ghost use Rattle.slotted_explain.specs.Chain.{RunsOutForTwoTermsOf, StepRunsOut, StepsRunOut, TermsRunOut};
 
 use crate::flat_terms::{marked, name_others, names_in, replace_at, subterm};
-use crate::steps::{FlatStep, from_side, mark_text, to_side};
+use crate::steps::{FlatStep, from_side, mark_text, reason_text, to_side};
 use slotted_analyses::Analysis;
+use slotted_changes::{Marked, named_like, texts_of_change};
 use slotted_graph::EGraph;
 use slotted_proofs::ProvenEq;
-use slotted_slots::{AppliedId, Error, SlotMap};
+use slotted_slots::{AppliedId, Error, SlotMap, SlotTable};
 use slotted_terms::expr::RecExpr;
 use slotted_terms::expr::printing::Printable;
 use std::alloc::Global;
 use std::fmt::Write;
 
-// Returns the text of the left side, and a line for each step. Each entry has a canonical term.
+// How the steps of a chain of terms are written.
+#[derive(Clone, Copy)]
+pub(crate) enum ChainForm {
+    // A line for each step, in which `Rewrite=>` and the assertion stand before what it puts in.
+    Flat,
+    // A line before and one after each step, in which the changed place is marked, and the assertion between them.
+    Marked,
+}
+
+// Returns the text of the left side, and the lines of each step. Each entry has a canonical term.
 pub(crate) fn chain_text<L: Printable, N: Analysis<L>>(
     alloc: Global,
     graph: &mut EGraph<L, N>,
     p: ProvenEq,
     steps: &[FlatStep],
+    form: ChainForm,
 ) -> Result<String, Error>
     requires entry { p < length graph.old.image.stored }
     requires within { AreWithin graph.old.image.stored steps.now }
@@ -34,16 +45,17 @@ pub(crate) fn chain_text<L: Printable, N: Analysis<L>>(
 {
     let left = graph.proofs().equ(p).l.copy(alloc)?;
     match canonical_term(graph, &left)? {
-        Some(head) => steps_text(alloc, graph, steps, head),
+        Some(head) => steps_text(alloc, graph, steps, form, head),
         None => Ok(String::new(alloc)),
     }
 }
 
-// Returns the text of the term, and a line for each step that begins with it.
+// Returns the text of the term, and the lines of each step. The first step begins with the term.
 fn steps_text<L: Printable, N: Analysis<L>>(
     alloc: Global,
     graph: &mut EGraph<L, N>,
     steps: &[FlatStep],
+    form: ChainForm,
     mut head: RecExpr<L>,
 ) -> Result<String, Error>
     requires { AreWithin graph.old.image.stored steps.now }
@@ -52,18 +64,35 @@ fn steps_text<L: Printable, N: Analysis<L>>(
     ensures full { IsErrOf result Error.OutOfSlots → StepsRunOut graph.old graph.new steps.now }
     ensures only { IfErr result IsShortage }
 {
-    let mut text = head.text(alloc, graph.table())?;
+    let mut text = opening(alloc, &head, steps, form, graph.table())?;
     for step in steps {
-        take_step(alloc, graph, step, &mut head, &mut text)?;
+        take_step(alloc, graph, step, form, &mut head, &mut text)?;
     }
     Ok(text)
 }
 
-// Takes a step at its place of the term, and appends its line.
+// Returns what stands before the lines of the steps: the text of the term, unless the first step writes it.
+fn opening<L: Printable>(
+    alloc: Global,
+    head: &RecExpr<L>,
+    steps: &[FlatStep],
+    form: ChainForm,
+    table: &SlotTable,
+) -> Result<String, Error>
+    ensures err { IfErr result IsOutOfMemory }
+{
+    match form {
+        ChainForm::Marked if !steps.is_empty() => Ok(String::new(alloc)),
+        _ => head.text(alloc, table),
+    }
+}
+
+// Takes a step at its place of the term, and appends its lines.
 fn take_step<L: Printable, N: Analysis<L>>(
     alloc: Global,
     graph: &mut EGraph<L, N>,
     step: &FlatStep,
+    form: ChainForm,
     head: &mut RecExpr<L>,
     text: &mut String,
 ) -> Result<(), Error>
@@ -76,8 +105,49 @@ fn take_step<L: Printable, N: Analysis<L>>(
     let Some(term) = subterm_after(alloc, graph, step, head)? else {
         return Ok(());
     };
+    match form {
+        ChainForm::Flat => {
+            replace_at(head, &step.path, term);
+            push_line(alloc, graph, step, head, text)
+        }
+        ChainForm::Marked => put_marked(alloc, graph, step, term, head, text),
+    }
+}
+
+// Puts a term in at the place of a step, and appends the lines of the step. Bound names stay as far as the terms agree.
+fn put_marked<L: Printable, N: Analysis<L>>(
+    alloc: Global,
+    graph: &EGraph<L, N>,
+    step: &FlatStep,
+    term: RecExpr<L>,
+    head: &mut RecExpr<L>,
+    text: &mut String,
+) -> Result<(), Error>
+    requires { step.now.entry < length graph.now.image.stored }
+    ensures err { IfErr result IsOutOfMemory }
+{
+    let before = head.copy(alloc)?;
     replace_at(head, &step.path, term);
-    push_line(alloc, graph, step, head, text)
+    let named = named_like(alloc, &before, head)?;
+    *head = named;
+    let texts = texts_of_change(alloc, &before, head, graph.table())?;
+    let reason = reason_text(alloc, graph.proofs(), step)?;
+    push_change(alloc, &texts, &reason, text)
+}
+
+// Appends two texts with a reason between them, each in a line of its own. The first text is left out if it is the last
+// line already.
+fn push_change(alloc: Global, texts: &Marked, reason: &str, text: &mut String) -> Result<(), Error>
+    ensures err { IfErr result IsOutOfMemory }
+{
+    let first = &texts.first;
+    let second = &texts.second;
+    let break_before = if text.is_empty() { "" } else { "\n" };
+    if text.lines().last() != Some(first.as_str()) {
+        write!(text, "{break_before}{first}")?;
+    }
+    write!(text, "\n  = by {reason}\n{second}")?;
+    Ok(())
 }
 
 // Appends the line of a step, after which the whole term is this one.

@@ -178,6 +178,23 @@ pub(crate) fn mark_text(alloc: Global, proofs: &ProofList, step: &FlatStep) -> R
     Ok(format!(in alloc; "Rewrite{arrow} {reason}")?)
 }
 
+// Returns the text of the assertion, and whether it is used backwards.
+pub(crate) fn reason_text(
+    alloc: Global,
+    proofs: &ProofList,
+    step: &FlatStep,
+) -> Result<String, Error>
+    requires { step.now.entry < length proofs.now }
+    ensures err { IfErr result IsOutOfMemory }
+{
+    let reason = match proofs.proof(step.entry) {
+        Proof::Explicit(explicit) => given_text(&explicit.0),
+        _ => "-",
+    };
+    let turned = if step.turned { ", backwards" } else { "" };
+    Ok(format!(in alloc; "{reason}{turned}")?)
+}
+
 // Returns the text, or `-` if there is none.
 fn given_text(text: &Option<String>) -> &str {
     match text {

@@ -4,6 +4,7 @@
 --     IsFailedOrShort e       the graph had failed, or it ran out
 --     IsRefusedBefore e       a test refused the pattern, before anything was added
 --     RefusesInstance s q e   why an instance is refused
+--     RefusesTerm refuses s q     a pattern is refused as no term: it is not whole, or else the method refuses so
 --     PassesTests s q         the pattern is whole, and each of its variables has a value
 --     IsEitherNotWhole p q    one of the patterns has a wrong number of child patterns at some node
 --     AreMissing s p q e, RefusesInstances s p q e, HavePassed s p q     the same of two patterns
@@ -38,6 +39,10 @@ RefusesInstance s q e = IsFailedOrShort e ⊎ ((e ≡ NotATerm) ⊎ (IsSome (pat
 -- an instance was built only of a whole pattern with a value for each variable
 abbrev pub PassesTests : Values → PatternTree → Type 0
 PassesTests s q = IsSome (pattern_in q) × (first_missing q s ≡ None)
+
+-- the method, which is asked after the tests, answers for other refusals of a whole pattern
+abbrev pub RefusesTerm : (Error → Type 0) → Values → PatternTree → Type 0
+RefusesTerm refuses s q = (pattern_in q ≡ None) ⊎ (PassesTests s q × refuses NotATerm)
 
 -- the same of two patterns: of the second only where the first has all values
 

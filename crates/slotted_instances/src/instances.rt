@@ -10,10 +10,11 @@ ghost use Rattle.slotted_graph.specs.States.{IsGraph};
 ghost use Rattle.slotted_graph.specs.ValidIds.{IsValidId};
 ghost use Rattle.slotted_rule_patterns.specs.PatternCode.{pattern_in};
 ghost use Rattle.slotted_rule_patterns.specs.Values.{values_of};
+ghost use Rattle.slotted_rule_patterns.specs.Variables.{first_missing};
 ghost use Rattle.slotted_instances.specs.Carried.{CarriesAlong};
 ghost use Rattle.slotted_instances.specs.Instances.{AreValidValues, HasValues, InstantiatesKnown};
 ghost use Rattle.slotted_instances.specs.Refusals.{IsFailedOrShort, IsMissing, IsRefusedBefore, PassesTests};
-ghost use Rattle.slotted_instances.specs.Refusals.{RefusesInstance};
+ghost use Rattle.slotted_instances.specs.Refusals.{RefusesInstance, RefusesMissing};
 
 use crate::refusals::{check_values, failing};
 use crate::stored::build_stored;
@@ -41,6 +42,8 @@ fn instance<L: Language, N: Analysis<L>>(
         (tree_of L.form pattern.now) (to_applied a)) }
     ensures given { OnOk result (HasValues (values_of subst.now) (tree_of L.form pattern.now)) }
     ensures carries { IsTrue graph.new.failed ⊎ CarriesAlong N.codes N.meaning graph.old graph.new }
+    ensures missing { IsSome (first_missing (tree_of L.form pattern.now) (values_of subst.now))
+        → RefusesMissing (values_of subst.now) (tree_of L.form pattern.now) result × (graph.new ≡ graph.old) }
     ensures err { IfErr result (λ e. IsShortage e
         ⊎ (IsMissing (values_of subst.now) (tree_of L.form pattern.now) e × (graph.new ≡ graph.old))) }
 {
@@ -79,6 +82,10 @@ pub fn pattern_subst<L: Language, N: Analysis<L>>(
     ensures tested { OnOk result (PassesTests (values_of subst.now) (tree_of L.form pattern.now)) }
     ensures whole { IsErrOf result Error.NotATerm
         ↔ ((graph.old.failed ≡ false) × (pattern_in (tree_of L.form pattern.now) ≡ None)) }
+    ensures missing { graph.old.failed ≡ false → IsSome (pattern_in (tree_of L.form pattern.now))
+        → IsSome (first_missing (tree_of L.form pattern.now) (values_of subst.now))
+        → RefusesMissing (values_of subst.now) (tree_of L.form pattern.now) result
+        × (IsTrue graph.new.failed ⊎ (graph.new ≡ graph.old)) }
     ensures unchanged { IsErrAnd result IsRefusedBefore → graph.new ≡ graph.old }
 
     ensures stays { IsTrue graph.old.failed → graph.new ≡ graph.old }

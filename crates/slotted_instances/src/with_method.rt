@@ -16,7 +16,7 @@ ghost use Rattle.slotted_instances.specs.Carried.{CarriesIf};
 ghost use Rattle.slotted_instances.specs.Instances.{AreValidValues, HasValues, Instantiates, IsAnswerFor};
 ghost use Rattle.slotted_instances.specs.Methods.{IsKnownMethod};
 ghost use Rattle.slotted_instances.specs.Refusals.{IsFailedOrShort, IsMissing, PassesTests, RefusesInstance};
-ghost use Rattle.slotted_instances.specs.Refusals.{RefusesMissing};
+ghost use Rattle.slotted_instances.specs.Refusals.{RefusesMissing, RefusesTerm};
 
 use crate::building::build;
 use crate::method::OwnSubst;
@@ -84,7 +84,10 @@ pub fn subst_with<L: Language, N: Analysis<L>, M: OwnSubst<L, N>>(
         → IsErrOf result Error.NotATerm × (graph.new ≡ graph.old) }
     ensures missing { graph.old.failed ≡ false → IsSome (pattern_in (tree_of L.form pattern.now))
         → IsSome (first_missing (tree_of L.form pattern.now) (values_of subst.now))
-        → RefusesMissing (values_of subst.now) (tree_of L.form pattern.now) result }
+        → RefusesMissing (values_of subst.now) (tree_of L.form pattern.now) result
+        × (IsTrue graph.new.failed ⊎ (graph.new ≡ graph.old)) }
+    ensures not_a_term { IsErrOf result Error.NotATerm
+        → RefusesTerm M.refuses (values_of subst.now) (tree_of L.form pattern.now) }
 
     ensures stays { IsTrue graph.old.failed → graph.new ≡ graph.old }
     ensures failed { IsErrOf result Error.Failed ↔ IsTrue graph.old.failed }

@@ -7,7 +7,7 @@ use Rattle.slotted_slots.specs.declared.error.Error.{Error}
 use Rattle.slotted_slots.specs.declared.error.Error.TheVariants.{Failed}
 use Rattle.slotted_nodes.specs.Form.{Form}
 use Rattle.slotted_patterns.specs.View.{tree_of}
-use Rattle.slotted_model_rules.specs.Runners.{AppliesAll, none_applied}
+use Rattle.slotted_model_rules.specs.Runners.{AppliesAll, none_applied, one_applied}
 use Rattle.slotted_operations.specs.Graph.{Graph}
 use Rattle.slotted_graph.specs.Extension.{ExtendsTo}
 use Rattle.slotted_graph.proofs.Extending.{extends-itself, extends-then}
@@ -66,6 +66,12 @@ module _ {R F K : Type 0} (key : K → F) (applies : R → K → Graph → Graph
       let none : left ≡ [] = none-left h left (subst (λ rs. CanApplyAll can rs left h) (drop_all i rules l) so_far.can_apply) in
       let whole : founds ≡ map key done = so_far.whole ∙ (ap (λ xs. map key done ++ xs) none ∙ append-nil (map key done)) in
       (sym whole, subst (λ rs. AppliesAll applies rs done g h) (take_all i rules l) so_far.applied)
+
+-- what each apply said of what it did can be left out
+pub applied-keys : {R F K : Type 0} (key : K → F) (says : R → K → Graph → Graph → Type 0) (applies : R → F → Graph → Graph → Type 0) → ((r : R) (k : K) (a b : Graph) → says r k a b → applies r (key k) a b) →
+    {rules : List R} {done : List K} {g h : Graph} → AppliesAll says rules done g h → AppliesAll applies rules (map key done) g h
+applied-keys key says applies less none_applied = none_applied
+applied-keys key says applies less (one_applied first more) = one_applied (less _ _ _ _ first) (applied-keys key says applies less more)
 
 -- what is told of one rule more
 pub counts-more : (counts new : List RuleCounts) (done : List (List Values × ℕ)) (k : List Values × ℕ) (x : RuleCounts) → counts ≡ counts_in done → x.found ≡ length k.0 → x.united ≡ k.1 → new ≡ counts ++ x ∷ [] →

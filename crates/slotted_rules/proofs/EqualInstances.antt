@@ -1,5 +1,5 @@
 -- Where rules without conditions were applied, instances of both sides are equal by what is asserted, for each match.
-use Rattle.std.proofs.Common.{◌≡◌, List, sym, subst, inl, inr}
+use Rattle.std.proofs.Common.{◌≡◌, ◌∙◌, List, refl, sym, subst, inl, inr}
 use Rattle.std.specs.Prelude.{◌<◌, ℕ, Bool, false, length, Contains}
 use Rattle.slotted_nodes.specs.Form.{Form}
 use Rattle.slotted_theory.specs.Nameless.{DTerm}
@@ -20,8 +20,8 @@ use Rattle.slotted_graph.proofs.Extending.{extends-itself, extends-takes, extend
 use Rattle.slotted_instances.specs.Methods.{method_of, represented}
 use Rattle.slotted_rules.specs.declared.rewrite.Rewrite.{Rewrite}
 use Rattle.slotted_rules.specs.Counting.{AppliesRule, SearchesRule}
-use Rattle.slotted_rules.specs.EqualInstances.{HasAppliedMatches, HasEqualIds, HaveEqualInstances}
-use Rattle.slotted_rules.specs.Rewriting.{HasEntryFor, HasEquationFor, IsSearched, IsSettled}
+use Rattle.slotted_rules.specs.EqualInstances.{HasAppliedMatches, HasEqualIds, HasSettledMatches, HaveEqualInstances}
+use Rattle.slotted_rules.specs.Rewriting.{HasEntryFor, HasEquationFor, IsSettled}
 use Rattle.slotted_rules.proofs.RuleOrigins.{applies-extend, searches-extend}
 use Rattle.slotted_rules.proofs.Settling.{settled-wider}
 
@@ -47,6 +47,8 @@ module _ (h : Graph) (is : IsGraph h) where
   -- an answer that is settled by an entry
   pub equation-equal : (g : Graph) (p q : PatternTree) (s : Values) → HasEquationFor g h p q s → HaveEqualInstances g h p q s
   equation-equal g p q s e = record {
+    whole_left = e.whole_left;
+    whole_right = e.whole_right;
     filled = e.filled;
     fills = e.fills;
     method = e.method;
@@ -55,47 +57,58 @@ module _ (h : Graph) (is : IsGraph h) where
     each = λ rule l r given known. entry-equal (represented (method_of e.method) e.pairs) given rule e.filled (e.each rule l r given known);
   }
 
--- rules without conditions, one after another
-module _ {L C : Type 0} (form : L → Form) (holds : C → Values → Graph → Bool → Type 0) (never_no : (c : C) (s : Values) (g : Graph) → ¬ holds c s g false) where
+-- rules, one after another
+module _ {L C : Type 0} (form : L → Form) (holds : C → Values → Graph → Bool → Type 0) where
   abbrev applies : Rewrite L C → List Values → Graph → Graph → Type 0
   applies = AppliesRule form holds
 
-  -- the search of a rule, and that each of its answers is settled from g to h
-  abbrev SearchedAndSettled : Graph → Graph → Rewrite L C → Type 0
-  SearchedAndSettled g h r =
-      (before : Graph) × (after : Graph) × (found : List Values) × ExtendsTo g before × IsSearched (tree_of form r.left) before found after × ExtendsTo after h
-      × ((s : Values) → Contains found s → HasEquationFor g h (tree_of form r.left) (tree_of form r.right) s)
+  abbrev Settles : Graph → Graph → Rewrite L C → Type 0
+  Settles g h r = HasSettledMatches (holds r.condition) g h (tree_of form r.left) (tree_of form r.right)
 
+  one-settled : (rule : Rewrite L C) (found : List Values) (g e f j k h : Graph) → e.image ≡ g.image → ExtendsTo g e → ExtendsTo g j → SearchesRule form rule e found f → applies rule found j k → ExtendsTo k h → ExtendsTo f h → Settles g h rule
+  one-settled rule found g e f j k h image start end first now later last =
+      let p = tree_of form rule.left in
+      let q = tree_of form rule.right in
+      record {
+        before = e;
+        after = f;
+        found = found;
+        image = image;
+        extends = start;
+        searched = first;
+        end = last;
+        settled = λ s c. settled-wider g j k h end later p q s (holds rule.condition) (now.settled s c);
+      }
+
+  -- searches from e on, and applies from j on, both later than g
+  each-settled : {rules : List (Rewrite L C)} {e i j h : Graph} {founds : List (List Values)} (g : Graph) → e.image ≡ g.image → ExtendsTo g e → ExtendsTo g j → ExtendsTo i j → SearchesAll (SearchesRule form) rules e founds i → AppliesAll applies rules founds j h →
+      (r : Rewrite L C) → In r rules → Settles g h r
+  each-settled g image start end between none_searched none_applied r among = absurd among
+  each-settled g image start end between (one_searched {rule = rule} {found = found} first more) (one_applied now later) r among = elim among [
+    | inl is ↦ subst (Settles g _) (sym is) (one-settled rule found g _ _ _ _ _ image start end first now (applies-extend form holds later)
+        (extends-then _ _ _ (searches-extend form holds more) (extends-then _ _ _ between (extends-then _ _ _ now.extends (applies-extend form holds later)))))
+    | inr rest ↦ each-settled g (first.takes.reads.image ∙ image) (extends-then g _ _ start (extends-takes _ _ first.takes)) (extends-then g _ _ end now.extends) (extends-then _ _ _ between now.extends) more later r rest
+  ]
+
+  -- each match of each rule is settled
+  pub rules-settled : (rules : List (Rewrite L C)) (g h : Graph) → AppliesRules (SearchesRule form) applies rules g h → (r : Rewrite L C) → Contains rules r → Settles g h r
+  rules-settled rules g h a r c = each-settled g refl (extends-itself g) (searches-extend form holds a.by_searches) (extends-itself a.searched) a.by_searches a.by_applies r (In-Contains rules r c)
+
+-- where no condition is ever no, instances of both sides are equal for each match
+module _ {L C : Type 0} (form : L → Form) (holds : C → Values → Graph → Bool → Type 0) (never_no : (c : C) (s : Values) (g : Graph) → ¬ holds c s g false) where
   settled-has : (c : C) (p q : PatternTree) (g h : Graph) (s : Values) → IsSettled (holds c) p q g h s → HasEquationFor g h p q s
   settled-has c p q g h s (inl e) = e
   settled-has c p q g h s (inr m) = absurd (never_no c s m.0 m.2)
 
-  one-settled : (rule : Rewrite L C) (found : List Values) (g e f j k h : Graph) → ExtendsTo g e → ExtendsTo g j → SearchesRule form rule e found f → applies rule found j k → ExtendsTo k h → ExtendsTo f h → SearchedAndSettled g h rule
-  one-settled rule found g e f j k h start end first now later last =
-      let p = tree_of form rule.left in
-      let q = tree_of form rule.right in
-      (e, f, found, start, first, last, λ s c. settled-has rule.condition p q g h s (settled-wider g j k h end later p q s (holds rule.condition) (now.settled s c)))
-
-  -- searches from e on, and applies from j on, both later than g
-  each-settled : {rules : List (Rewrite L C)} {e i j h : Graph} {founds : List (List Values)} (g : Graph) → ExtendsTo g e → ExtendsTo g j → ExtendsTo i j → SearchesAll (SearchesRule form) rules e founds i → AppliesAll applies rules founds j h →
-      (r : Rewrite L C) → In r rules → SearchedAndSettled g h r
-  each-settled g start end between none_searched none_applied r among = absurd among
-  each-settled g start end between (one_searched {rule = rule} {found = found} first more) (one_applied now later) r among = elim among [
-    | inl is ↦ subst (SearchedAndSettled g _) (sym is) (one-settled rule found g _ _ _ _ _ start end first now (applies-extend form holds later)
-        (extends-then _ _ _ (searches-extend form holds more) (extends-then _ _ _ between (extends-then _ _ _ now.extends (applies-extend form holds later)))))
-    | inr rest ↦ each-settled g (extends-then g _ _ start (extends-takes _ _ first.takes)) (extends-then g _ _ end now.extends) (extends-then _ _ _ between now.extends) more later r rest
-  ]
-
-  -- for each match of each rule the instances of both sides are equal
-  pub rules-applied : (rules : List (Rewrite L C)) (g h : Graph) → IsGraph h → AppliesRules (SearchesRule form) applies rules g h → (r : Rewrite L C) → Contains rules r → HasAppliedMatches g h (tree_of form r.left) (tree_of form r.right)
+  pub rules-applied : (rules : List (Rewrite L C)) (g h : Graph) → IsGraph h → AppliesRules (SearchesRule form) (AppliesRule form holds) rules g h → (r : Rewrite L C) → Contains rules r → HasAppliedMatches g h (tree_of form r.left) (tree_of form r.right)
   rules-applied rules g h is a r c =
-      let e = each-settled g (extends-itself g) (searches-extend form holds a.by_searches) (extends-itself a.searched) a.by_searches a.by_applies r (In-Contains rules r c) in
+      let e = rules-settled form holds rules g h a r c in
       record {
-        before = e.0;
-        after = e.1;
-        found = e.2;
-        extends = e.3;
-        searched = e.4;
-        end = e.5;
-        equal = λ s d. equation-equal h is g (tree_of form r.left) (tree_of form r.right) s (e.6 s d);
+        before = e.before;
+        after = e.after;
+        found = e.found;
+        extends = e.extends;
+        searched = e.searched;
+        end = e.end;
+        equal = λ s d. equation-equal h is g (tree_of form r.left) (tree_of form r.right) s (settled-has r.condition (tree_of form r.left) (tree_of form r.right) g h s (e.settled s d));
       }

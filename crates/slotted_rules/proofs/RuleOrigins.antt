@@ -19,6 +19,7 @@ use Rattle.slotted_rules.specs.Applying.{RefusesRules, ThenModifies, apply_refus
 use Rattle.slotted_rules.specs.Counting.{AppliesRule, BreaksRule, CountsAndModifies, CountsRules, SearchesRule, UnitesRule}
 use Rattle.slotted_rules.specs.RuleOrigins.{AreFromRules, AreFromRulesOrEdits, ComesFromEdits, ComesFromRules}
 use Rattle.slotted_rules.specs.declared.counting.RuleCounts.{RuleCounts}
+use Rattle.slotted_rules.proofs.Counted.{applied-keys}
 use Rattle.slotted_rules.proofs.Settling.{begins-at, begins-within, comes-wider}
 
 -- an explicit entry that was there before was explicit then
@@ -184,8 +185,7 @@ module _ {L C : Type 0} (form : L → Form) (holds : C → Values → Graph → 
 
   -- what is counted is applied
   united-applied : {rules : List (Rewrite L C)} {each : List (List Values × ℕ)} {g h : Graph} → AppliesAll (UnitesRule form holds) rules each g h → AppliesAll applies rules (map (λ k. k.0) each) g h
-  united-applied none_applied = none_applied
-  united-applied (one_applied first more) = one_applied first.0 (united-applied more)
+  united-applied each = applied-keys (λ (k : List Values × ℕ). k.0) (UnitesRule form holds) applies (λ r k a b united. united.0) each
 
   pub counted-rules : (rules : List (Rewrite L C)) (g : Graph) (counts : List RuleCounts) (h : Graph) → CountsRules form holds rules g counts h → AppliesRules (SearchesRule form) applies rules g h
   counted-rules rules g counts h c = record { searched = c.searched; found = map (λ k. k.0) c.each; by_searches = c.by_searches; by_applies = united-applied c.by_applies }

@@ -73,6 +73,8 @@ module _ (g f h i : Graph) (before : ExtendsTo g f) (after : ExtendsTo h i) (p q
 
   has-wider : HasEquationFor f h p q s → HasEquationFor g i p q s
   has-wider e = record {
+    whole_left = e.whole_left;
+    whole_right = e.whole_right;
     filled = e.filled;
     fills = filled-wider e.filled e.fills;
     method = e.method;
@@ -87,6 +89,8 @@ module _ (g f h i : Graph) (before : ExtendsTo g f) (after : ExtendsTo h i) (p q
 
   equation-wider : (e : Equation) → IsEquationFor f h p q s e → IsEquationFor g i p q s e
   equation-wider e k = record {
+    whole_left = k.whole_left;
+    whole_right = k.whole_right;
     filled = k.filled;
     fills = filled-wider k.filled k.fills;
     method = k.method;
@@ -118,8 +122,10 @@ none-given g = λ k d l. absurd (omega (arith, l))
 
 -- one answer whose condition holds
 module _ (holds : Values → Graph → Bool → Type 0) (p q : PatternTree) (name : List ℕ) (s : Values) (g h : Graph) (y : Bool) (u : UnitesInstances g h s p q (Some name) y) where
-  united-has : HasEquationFor g h p q s
-  united-has = record {
+  united-has : HavePassed s p q → HasEquationFor g h p q s
+  united-has passed = record {
+    whole_left = passed.0.0;
+    whole_right = passed.1.0;
     filled = u.filled;
     fills = united-fills g h s p q (Some name) y u;
     method = u.method;
@@ -148,6 +154,8 @@ module _ (holds : Values → Graph → Bool → Type 0) (p q : PatternTree) (nam
           between = record { graph = is; after = extends-itself g; before = u.extends };
           held = held;
           equation = record {
+            whole_left = passed.0.0;
+            whole_right = passed.1.0;
             filled = u.filled;
             fills = united-fills g h s p q (Some name) y u;
             method = u.method;
@@ -209,7 +217,7 @@ module _ (holds : Values → Graph → Bool → Type 0) (p q : PatternTree) (nam
   one-applied h y (asserts held passed u) = record {
     graph = u.graph;
     extends = extends-then g f h so_far.extends u.extends;
-    settled = earlier-settled h u.extends (settled-wider g f h h so_far.extends (extends-itself h) p q answer holds (inl (united-has holds p q name answer f h y u)));
+    settled = earlier-settled h u.extends (settled-wider g f h h so_far.extends (extends-itself h) p q answer holds (inl (united-has holds p q name answer f h y u passed)));
     origin = both-origins h u.graph u.extends (united-comes holds p q name answer f h y u found (Contains-get_or found i [] l) held so_far.graph passed);
     within = next-within y;
     in_turn = in-turn h y (asserts held passed u);

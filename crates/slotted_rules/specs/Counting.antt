@@ -8,6 +8,7 @@
 --     counts_in ks                         what is told of each rule
 --     CountsRules form holds rules g counts h      all rules are searched, then each is applied, and this is told of them
 --     CountsAndModifies form holds rules after g counts h      so it is of a graph from which `after` leads to h
+--     RefusesCounted form holds refuses rules g h e    all rules are searched, some are applied, and the apply of the next one is refused and leaves h
 use Rattle.std.specs.Prelude.{◌≡◌, ℕ, List, length, map, Bool, string_bytes}
 use Rattle.slotted_slots.specs.declared.error.Error.{Error}
 use Rattle.slotted_nodes.specs.Form.{Form}
@@ -17,7 +18,7 @@ use Rattle.slotted_model_rules.specs.Runners.{AppliesAll, SearchesAll}
 use Rattle.slotted_operations.specs.Graph.{Graph}
 use Rattle.slotted_rules.specs.declared.counting.RuleCounts.{RuleCounts}
 use Rattle.slotted_rules.specs.declared.rewrite.Rewrite.{Rewrite}
-use Rattle.slotted_rules.specs.Applying.{ThenModifies}
+use Rattle.slotted_rules.specs.Applying.{RefusesRules, ThenModifies}
 use Rattle.slotted_rules.specs.Rewriting.{BreaksOff, CanBeApplied, IsRefusedRewrite, IsSearched, LeavesApplied, LeavesUnited}
 
 abbrev pub SearchesRule : {L C : Type 0} → (L → Form) → Rewrite L C → Graph → List Values → Graph → Type 0
@@ -55,3 +56,7 @@ AppliesCounted form holds rules founds g counts h = (each : List (List Values ×
 -- and then edits are made
 abbrev pub CountsAndModifies : {L C : Type 0} → (L → Form) → (C → Values → Graph → Bool → Type 0) → List (Rewrite L C) → (Graph → Graph → Type 0) → Graph → List RuleCounts → Graph → Type 0
 CountsAndModifies form holds rules after g counts h = ThenModifies (λ e f. CountsRules form holds rules e counts f) after g h
+
+-- no search is refused but over a failed graph, or if memory or slots ran out
+abbrev pub RefusesCounted : {L C : Type 0} → (L → Form) → (C → Values → Graph → Bool → Type 0) → (C → Values → Graph → Error → Type 0) → List (Rewrite L C) → Graph → Graph → Error → Type 0
+RefusesCounted form holds refuses rules g h e = RefusesRules (SearchesRule form) (λ _ _ _ _. ⊥) (AppliesRule form holds) (BreaksRule form holds refuses) rules g h e

@@ -61,9 +61,11 @@ pub record CanBeApplied (t : PatternTree) (found : List Values) (g : Graph) : Ty
   pub whole : (s : Values) → Contains found s → IsSome (pattern_in t)
   pub values : (s : Values) → Contains found s → first_missing t s ≡ None
 
--- each value has got its missing names once, for both sides; what represents the bodies of substitutions is said by one of the methods that a
--- graph can be made with
+-- both patterns have as many child patterns at each node as it has places; each value has got its missing names once, for both sides; what
+-- represents the bodies of substitutions is said by one of the methods that a graph can be made with
 pub record IsEquationFor (g h : Graph) (p q : PatternTree) (s : Values) (e : Equation) : Type 0 where
+  pub whole_left : IsSome (pattern_in p)
+  pub whole_right : IsSome (pattern_in q)
   pub filled : Values
   pub fills : FillsValues g.table h.image.canonical [] s filled
   pub method : SubstMethod
@@ -78,6 +80,8 @@ pub record HasEntryFor (R : DTerm → DTerm → Bool) (given : List ℕ) (h : Gr
   pub instances : IsEquationOfInstances R given h.image.canonical rule s (equation_at h.image.entries number)
 
 pub record HasEquationFor (g h : Graph) (p q : PatternTree) (s : Values) : Type 0 where
+  pub whole_left : IsSome (pattern_in p)
+  pub whole_right : IsSome (pattern_in q)
   pub filled : Values
   pub fills : FillsValues g.table h.image.canonical [] s filled
   pub method : SubstMethod

@@ -5,8 +5,9 @@ ghost use Rattle.slotted_patterns.specs.View.{tree_of};
 ghost use Rattle.slotted_graph.specs.Analysed.{LowersData};
 ghost use Rattle.slotted_graph.specs.Extension.{ExtendsTo};
 ghost use Rattle.slotted_graph.specs.Writing.{IfUnmodified};
-ghost use Rattle.slotted_rules.specs.Applying.{AreModified, AreRefusedBy, CanApplyAll, HasProgressed};
-ghost use Rattle.slotted_rules.specs.Counting.{AppliesCounted, CanApplyRule, CountsAndModifies, CountsRules, RefusesRule, UnitesRule};
+ghost use Rattle.slotted_rules.specs.Applying.{AreModified, AreRefusedBy, CanApplyAll, HasProgressed, StopsApplying};
+ghost use Rattle.slotted_rules.specs.Counting.{AppliesCounted, AppliesRule, BreaksRule, CanApplyRule, CountsAndModifies};
+ghost use Rattle.slotted_rules.specs.Counting.{CountsRules, RefusesCounted, RefusesRule, UnitesRule};
 ghost use Rattle.slotted_rules.specs.Rewriting.{CanBeApplied};
 ghost use Rattle.slotted_rules.specs.Written.{CanBeSearched};
 
@@ -57,6 +58,8 @@ fn count_one<L: Language, N: Analysis<L>, C: Cond<L, N>>(
     ensures lowers { IsTrue graph.new.failed ⊎ LowersData N.codes N.meaning graph.old graph.new }
     ensures fails { IsTrue graph.new.failed → IsErrAnd result (λ e. (e ≡ Error.Failed) ⊎ IsShortage e) }
     ensures failed { IsErrOf result Error.Failed ↔ IsTrue graph.old.failed }
+    ensures left { IfErr result (λ e. IsTrue graph.new.failed
+        ⊎ BreaksRule L.form C.answers C.refuses rule.now found graph.old graph.new e) }
     ensures err { IfErr result (λ e. (e ≡ Error.Failed) ⊎ IsShortage e ⊎ RefusesRule L.form C.refuses rule.now e) }
 {
     let united = apply_matches(alloc, graph, rule, &found)?;
@@ -82,6 +85,8 @@ fn count_all<L: Language, N: Analysis<L>, C: Cond<L, N>>(
     ensures extends { IsTrue graph.new.failed ⊎ ExtendsTo graph.old graph.new }
     ensures lowers { IsTrue graph.new.failed ⊎ LowersData N.codes N.meaning graph.old graph.new }
     ensures fails { IsTrue graph.new.failed → IsErrAnd result IsShortage }
+    ensures refused { IfErr result (λ e. IsShortage e ⊎ StopsApplying (AppliesRule L.form C.answers)
+        (BreaksRule L.form C.answers C.refuses) rules.now found.items graph.old graph.new e) }
     ensures err { IfErr result (λ e. IsShortage e ⊎ AreRefusedBy (RefusesRule L.form C.refuses) rules.now e) }
 {
     let mut left = found;
@@ -106,6 +111,8 @@ fn search_and_count<L: Language, N: Analysis<L>, C: Cond<L, N>>(
     ensures extends { IsTrue graph.new.failed ⊎ ExtendsTo graph.old graph.new }
     ensures lowers { IsTrue graph.new.failed ⊎ LowersData N.codes N.meaning graph.old graph.new }
     ensures fails { IsTrue graph.new.failed → IsErrAnd result IsShortage }
+    ensures refused { IfErr result
+        (λ e. IsShortage e ⊎ RefusesCounted L.form C.answers C.refuses rules.now graph.old graph.new e) }
     ensures err { IfErr result (λ e. IsShortage e ⊎ AreRefusedBy (RefusesRule L.form C.refuses) rules.now e) }
 {
     let found = search_all(alloc, graph, rules)?;
@@ -127,6 +134,8 @@ fn count_and_modify<L: Language, N: Analysis<L>, C: Cond<L, N>>(
     ensures extends { IsTrue graph.new.failed ⊎ ExtendsTo graph.old graph.new }
     ensures lowers { IsTrue graph.new.failed ⊎ LowersData N.codes N.meaning graph.old graph.new }
     ensures fails { IsTrue graph.new.failed → IsErrAnd result IsShortage }
+    ensures refused { IfErr result
+        (λ e. IsShortage e ⊎ RefusesCounted L.form C.answers C.refuses rules.now graph.old graph.new e) }
     ensures err { IfErr result (λ e. IsShortage e ⊎ AreRefusedBy (RefusesRule L.form C.refuses) rules.now e) }
 {
     let counts = search_and_count(alloc, graph, rules)?;
@@ -148,6 +157,8 @@ fn count_turn<L: Language, N: Analysis<L>, C: Cond<L, N>>(
     ensures extends { IsTrue graph.new.failed ⊎ ExtendsTo graph.old graph.new }
     ensures lowers { IsTrue graph.new.failed ⊎ LowersData N.codes N.meaning graph.old graph.new }
     ensures fails { IsTrue graph.new.failed → IsErrAnd result IsShortage }
+    ensures refused { IfErr result
+        (λ e. IsShortage e ⊎ RefusesCounted L.form C.answers C.refuses rules.now graph.old graph.new e) }
     ensures err { IfErr result (λ e. IsShortage e ⊎ AreRefusedBy (RefusesRule L.form C.refuses) rules.now e) }
 {
     let before = graph.progress();
@@ -162,7 +173,8 @@ fn count_turn<L: Language, N: Analysis<L>, C: Cond<L, N>>(
 /// `apply_rewrites` does. Returns what each rule found and changed.
 ///
 /// A match counts as united if the instances of both sides were not found equal just before. E-nodes that an instance
-/// adds are not counted, nor is what edits of classes change. What was applied before a refusal stays.
+/// adds are not counted, nor is what edits of classes change. What was applied before a refusal stays. After the refusal
+/// of a rule no class is modified.
 pub fn apply_counted<L: Language, N: Analysis<L>, C: Cond<L, N>>(
     alloc: Global,
     graph: &mut EGraph<L, N>,
@@ -180,6 +192,10 @@ pub fn apply_counted<L: Language, N: Analysis<L>, C: Cond<L, N>>(
     // What was there stays, even if a rule is refused. Data is only lowered, and the limit of rounds stays.
     ensures extends { IsTrue graph.new.failed ⊎ ExtendsTo graph.old graph.new }
     ensures lowers { IsTrue graph.new.failed ⊎ LowersData N.codes N.meaning graph.old graph.new }
+
+    // A refused rule is told, with what was done before it. Then no class is modified.
+    ensures refused { IfErr result (λ e. IsTrue graph.new.failed
+        ⊎ RefusesCounted L.form C.answers C.refuses rules.now graph.old graph.new e) }
     ensures stays { IsTrue graph.old.failed → graph.new ≡ graph.old }
     ensures failed { IsErrOf result Error.Failed ↔ IsTrue graph.old.failed }
     ensures fails { IsTrue graph.new.failed ↔ IsErrAnd result (λ e. (e ≡ Error.Failed) ⊎ IsShortage e) }

@@ -1,5 +1,5 @@
 //! Counts of a rule in each turn, and a rule that rests.
-use crate::backoff::Backoff;
+use slotted_backoff::Backoff;
 use slotted_graph::EGraph;
 use slotted_rules::{Always, Rewrite, TurnCounts, apply_rewrites, are_valid};
 use slotted_runs::run_counted;

@@ -6,6 +6,7 @@
 //! - `runner M T N D: CLOCK` reports of a runner under one rule, which adds an e-node in each turn as long as there are
 //!   fewer than M. The limits of turns, e-nodes and time are T, N and D, or the usual ones for `-`. The clock tells the
 //!   numbers, and then 0. `hook K M T N D: CLOCK` is the same with a hook that stops the run after K turns.
+//! - `resumed M T U: CLOCK` is the same with T for the limit of turns, and again after the runner was let go on with U.
 //! - `eqsat M T S: CLOCK` reports of a run without a runner, with limits of turns and of seconds.
 //! - `counted T TERM: L => R` tells of each turn, up to T turns, whether the graph changed, how many matches the rule
 //!   had, and how many of them it united. The graph has the term at first.
@@ -14,7 +15,6 @@
 //!   e-nodes.
 #![tactic(auto)]
 
-mod backoff;
 mod counting;
 mod counts;
 mod doubles;

@@ -104,6 +104,22 @@ fn write_runner(
     write_run(&mut limited(runner, numbers), most(numbers.first), text)
 }
 
+// Writes the report of a new runner, and that of the same runner after it went on to another limit of turns.
+fn write_resumed(
+    alloc: Global,
+    numbers: Given,
+    clock: Times,
+    text: &mut String,
+) -> Result<(), Error> {
+    let runner: Counted<NoHook> = Runner::new(alloc, SlotTable::new(alloc), (), clock)?;
+    let mut runner = runner.with_iter_limit(limit(numbers.second));
+    write_run(&mut runner, most(numbers.first), text)?;
+    text.push_str("; resumed ")?;
+    let mut runner = runner.with_iter_limit(limit(numbers.third));
+    runner.resume();
+    write_run(&mut runner, most(numbers.first), text)
+}
+
 // Writes the reports of a new runner with a hook.
 fn write_hooked(
     alloc: Global,
@@ -160,6 +176,7 @@ pub fn write_reports(
     let mut clock = times(alloc, clock)?;
     match word {
         "eqsat" => write_at_once(alloc, numbers(words), &mut clock, text),
+        "resumed" => write_resumed(alloc, numbers(words), clock, text),
         "hook" => {
             let (at, words) = words.split_once(' ').unwrap_or((words, ""));
             let at = at.parse().unwrap_or(0);

@@ -1,14 +1,16 @@
 -- Turns that are counted: one more.
-use Rattle.std.proofs.Common.{◌≡◌, ◌<◌, ◌≤◌, ℕ, List, [], ◌∷◌, ◌++◌, length, true, false, sym, subst, arith}
-use Rattle.std.specs.Prelude.{◌↔◌, Bool, IsTrue}
+use Rattle.std.proofs.Common.{◌≡◌, ◌<◌, ◌≤◌, ℕ, List, [], ◌∷◌, ◌++◌, length, true, false, sym, subst, arith, inl, inr}
+use Rattle.std.specs.Prelude.{◌↔◌, ◌⊎◌, Bool, IsTrue}
+use Rattle.slotted_slots.specs.declared.error.Error.{Error}
+use Rattle.slotted_slots.specs.Error.{IsShortage}
 use Rattle.slotted_nodes.specs.Form.{Form}
 use Rattle.slotted_model_rules.specs.Conditions.{Values}
 use Rattle.slotted_operations.specs.Graph.{Graph}
 use Rattle.slotted_rules.specs.Applying.{HasProgressed}
-use Rattle.slotted_rules.specs.Counting.{CountsAndModifies}
+use Rattle.slotted_rules.specs.Counting.{CountsAndModifies, RefusesCounted}
 use Rattle.slotted_rules.specs.declared.counting.TurnCounts.{TurnCounts}
 use Rattle.slotted_rules.specs.declared.rewrite.Rewrite.{Rewrite}
-use Rattle.slotted_runs.specs.Counted.{GoesOn, IsTurn, TakesTurns, no_turn, reaches_limit, saturates, turn_more}
+use Rattle.slotted_runs.specs.Counted.{BreaksTurns, GoesOn, IsTurn, TakesTurns, no_turn, reaches_limit, saturates, turn_more}
 
 module _ {L C : Type 0} (form : L → Form) (holds : C → Values → Graph → Bool → Type 0) (rules : List (Rewrite L C)) (after : Graph → Graph → Type 0) (limit : ℕ) (g : Graph) where
   pub no-turns : (turns : List TurnCounts) → turns ≡ [] → GoesOn form holds rules after g turns g
@@ -27,3 +29,15 @@ module _ {L C : Type 0} (form : L → Form) (holds : C → Values → Graph → 
 
     pub turn-last : t.changed ≡ false → length turns < limit → TakesTurns form holds rules after limit g new h
     turn-last unchanged few = saturates turns f t is goes turn unchanged few
+
+  -- a refusal is a shortage, or the turns before it went on
+  pub turn-broken : (refuses : C → Values → Graph → Error → Type 0) (turns : List TurnCounts) (f h : Graph) → GoesOn form holds rules after g turns f → length turns < limit → (e : Error) → (IsTrue h.failed → IsShortage e) →
+      IsTrue h.failed ⊎ RefusesCounted form holds refuses rules f h e → IsShortage e ⊎ BreaksTurns form holds refuses rules after limit g h e
+  turn-broken refuses turns f h goes few e short (inl failed) = inl (short failed)
+  turn-broken refuses turns f h goes few e short (inr refused) = inr (record {
+    turns = turns;
+    moment = f;
+    goes_on = goes;
+    few = few;
+    refused = refused;
+  })

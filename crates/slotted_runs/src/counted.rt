@@ -6,7 +6,7 @@ ghost use Rattle.slotted_graph.specs.Extension.{ExtendsTo};
 ghost use Rattle.slotted_rules.specs.Applying.{AreModified, AreRefusedBy};
 ghost use Rattle.slotted_rules.specs.Counting.{RefusesRule};
 ghost use Rattle.slotted_rules.specs.Written.{CanBeSearched};
-ghost use Rattle.slotted_runs.specs.Counted.{TakesTurns};
+ghost use Rattle.slotted_runs.specs.Counted.{BreaksTurns, TakesTurns};
 
 use slotted_analyses::Analysis;
 use slotted_graph::EGraph;
@@ -31,6 +31,8 @@ fn take_counted<L: Language, N: Analysis<L>, C: Cond<L, N>>(
     ensures extends { IsTrue graph.new.failed ⊎ ExtendsTo graph.old graph.new }
     ensures lowers { IsTrue graph.new.failed ⊎ LowersData N.codes N.meaning graph.old graph.new }
     ensures fails { IsTrue graph.new.failed → IsErrAnd result IsShortage }
+    ensures refused { IfErr result (λ e. IsShortage e ⊎ BreaksTurns L.form C.answers C.refuses rules.now
+        (AreModified N.codes N.meaning N.may_ask N.modifies) turn_limit graph.old graph.new e) }
     ensures err { IfErr result (λ e. IsShortage e ⊎ AreRefusedBy (RefusesRule L.form C.refuses) rules.now e) }
 {
     let mut turns = Vec::new(alloc);
@@ -63,6 +65,10 @@ pub fn run_counted<L: Language, N: Analysis<L>, C: Cond<L, N>>(
     // What was there stays, even if a turn is refused. Data is only lowered, and the limit of rounds stays.
     ensures extends { IsTrue graph.new.failed ⊎ ExtendsTo graph.old graph.new }
     ensures lowers { IsTrue graph.new.failed ⊎ LowersData N.codes N.meaning graph.old graph.new }
+
+    // A refused rule is told, with what its turn did before it, and the turns before.
+    ensures refused { IfErr result (λ e. IsTrue graph.new.failed ⊎ BreaksTurns L.form C.answers C.refuses rules.now
+        (AreModified N.codes N.meaning N.may_ask N.modifies) turn_limit graph.old graph.new e) }
     ensures stays { IsTrue graph.old.failed → graph.new ≡ graph.old }
     ensures failed { IsErrOf result Error.Failed ↔ IsTrue graph.old.failed }
     ensures fails { IsTrue graph.new.failed ↔ IsErrAnd result (λ e. (e ≡ Error.Failed) ⊎ IsShortage e) }

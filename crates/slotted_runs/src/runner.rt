@@ -161,4 +161,12 @@ impl<
         self.limits.time = nanoseconds;
         self
     }
+
+    /// Lets a runner that has stopped go on: the next `run` takes turns again. What it has stored stays, so its limits
+    /// count the turns that it has taken, and the time since the first of them.
+    pub fn resume(&mut self)
+        ensures { let p = parts_of self.old in parts_of self.new ≡ record p { stop_reason = None } }
+    {
+        self.stop_reason = None;
+    }
 }

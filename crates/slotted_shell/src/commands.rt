@@ -24,6 +24,7 @@ pub fn answer(shell: &mut Shell, word: &str, rest: &str) -> Result<String, Troub
         "eq" => Ok(String::from_str(shell.alloc, told(judged(shell, rest)?))?),
         "check" => check(shell, rest),
         "explain" => explain(shell, rest),
+        "chain" => chain(shell, rest),
         "cost" => set_cost(shell, rest),
         "extract" => extract(shell, rest),
         "matches" => count_matches(shell, rest),
@@ -121,6 +122,22 @@ fn explain(shell: &mut Shell, text: &str) -> Result<String, Trouble> {
     }
 }
 
+// Answers by a proof as a chain of terms. The graph is decided first, as for `explain`. Terms that are equal by a symmetry
+// alone have no chain, and are answered as `explain` does.
+fn chain(shell: &mut Shell, text: &str) -> Result<String, Trouble> {
+    let alloc = shell.alloc;
+    let (left, right) = shell.add_both(text)?;
+    match shell.workspace.decided_eq(left, right, VARIANTS) {
+        Ok(Verdict::Open) => return Err(undecided(alloc, text)?),
+        Ok(_) => {}
+        Err(error) => return Err(Trouble::of_call(alloc, &error, text)),
+    }
+    match shell.workspace.explain_marked(left, right) {
+        Ok(chain) => Ok(chain),
+        Err(_) => explain(shell, text),
+    }
+}
+
 fn set_cost(shell: &mut Shell, text: &str) -> Result<String, Trouble> {
     let alloc = shell.alloc;
     if let Some((word, number)) = text.split_once(' ')
@@ -144,11 +161,16 @@ fn extract(shell: &mut Shell, text: &str) -> Result<String, Trouble> {
         Ok(weights) => weights,
         Err(error) => return Err(Trouble::of_text(alloc, &error, text)),
     };
-    match shell.workspace.extract_by(handle, weights) {
+    match shell.workspace.extract_decided(handle, weights, VARIANTS) {
         Ok(found) => {
             let cost = found.cost;
             let term = &found.text;
-            Ok(format!(in alloc; "{cost} {term}")?)
+            let note = if found.is_decided {
+                ""
+            } else {
+                " (not decided)"
+            };
+            Ok(format!(in alloc; "{cost} {term}{note}")?)
         }
         Err(error) => Err(Trouble::of_call(alloc, &error, text)),
     }

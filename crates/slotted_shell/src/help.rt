@@ -10,6 +10,7 @@ union T == U             asserts an equation; ` because NAME` may follow
 eq T == U                yes or no; `not decided` if the graph has too many symmetries
 check T == U             as eq; a no is an error, and the status at the end is 1
 explain T == U           a proof
+chain T == U             the same as a chain of terms, with what each step changes between `[` and `]`
 run [TURNS]              runs the rules, 30 turns and 10000 e-nodes if nothing is said; ` nodes N` or ` seconds S` may follow
 cost OPERATOR N          what extract counts for an operator; 1 if nothing is said
 extract T                the least cost of an equal term, and such a term

@@ -9,3 +9,4 @@ pub mod FoundSides
 pub mod InGroup
 pub mod LeastIds
 pub mod EqualIds
+pub mod DecidedIds

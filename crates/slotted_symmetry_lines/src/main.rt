@@ -3,14 +3,15 @@
 //! `union T == U` answers `true` if the terms were not equal, and unites them. `eq T == U` answers whether the ids of
 //! both terms are found equal. `same T == U` answers whether these ids are equal up to symmetries. `symmetries` answers
 //! how many symmetries were met, and how many of them are open. `decide` decides the graph, and answers `decided`, or
-//! `open` if more than a thousand e-nodes are missing. `explain T == U` decides the graph, and prints the proof that both
+//! `open` if more than a thousand e-nodes are missing. `verdict N T == U` decides the graph if at most N e-nodes are
+//! missing, and answers `yes`, `no` or `open`. `explain T == U` decides the graph, and prints the proof that both
 //! terms are equal. `asserted` answers how many equations were asserted. Any other line is answered by an error.
 //!
 //! A line `---` stands between two sessions, and each session has a graph of its own. A line that begins with `# ` is a
 //! title. Both are written as they stand.
 #![tactic(auto)]
 
-use slotted_deciding::{Explained, decide, decided_explain};
+use slotted_deciding::{Explained, Verdict, decide, decided_eq, decided_explain};
 use slotted_explain::Explanation;
 use slotted_graph::EGraph;
 use slotted_slots::{AppliedId, Error, SlotTable};
@@ -48,6 +49,28 @@ fn answer_of_ids(
     }
 }
 
+// Adds the term of a text by its syntactic e-nodes, and returns its id.
+fn add_syn(graph: &mut EGraph<Small>, text: &str) -> Result<AppliedId, Error> {
+    let term = graph.parse_expr(text)?;
+    graph.add_syn_expr(&term)
+}
+
+// Adds the terms of two texts by their syntactic e-nodes, so that what is asserted of them is what was written.
+fn add_syn_both(graph: &mut EGraph<Small>, texts: &str) -> Result<(AppliedId, AppliedId), Error> {
+    let (left, right) = texts.split_once(" == ").unwrap_or((texts, ""));
+    let left = add_syn(graph, left)?;
+    let right = add_syn(graph, right)?;
+    Ok((left, right))
+}
+
+// Adds the terms of two texts by look-up, and returns their ids.
+fn add_both(graph: &mut EGraph<Small>, texts: &str) -> Result<(AppliedId, AppliedId), Error> {
+    let (left, right) = texts.split_once(" == ").unwrap_or((texts, ""));
+    let left = add(graph, left)?;
+    let right = add(graph, right)?;
+    Ok((left, right))
+}
+
 // Returns the answer to a word about two texts.
 fn answer_of_texts(
     alloc: Global,
@@ -55,10 +78,26 @@ fn answer_of_texts(
     word: &str,
     texts: &str,
 ) -> Result<bool, Error> {
-    let (left, right) = texts.split_once(" == ").unwrap_or((texts, ""));
-    let left = add(graph, left)?;
-    let right = add(graph, right)?;
+    let (left, right) = match word {
+        "union" => add_syn_both(graph, texts)?,
+        _ => add_both(graph, texts)?,
+    };
     answer_of_ids(alloc, graph, word, &left, &right)
+}
+
+// Decides the graph with the limit of a text, and returns whether the terms behind the limit are equal.
+fn verdict(alloc: Global, graph: &mut EGraph<Small>, text: &str) -> Result<&'static str, Error> {
+    let (limit, texts) = text.split_once(" ").unwrap_or((text, ""));
+    let limit = limit.parse::<usize>().unwrap_or(LIMIT);
+    let (left, right) = add_both(graph, texts)?;
+    if !graph.is_valid(&left) || !graph.is_valid(&right) {
+        return Err(Error::NotATerm);
+    }
+    match decided_eq(alloc, graph, &left, &right, limit)? {
+        Verdict::Yes => Ok("yes"),
+        Verdict::No => Ok("no"),
+        Verdict::Open => Ok("open"),
+    }
 }
 
 // Returns how many symmetries were met, and how many of them are open.
@@ -114,8 +153,10 @@ fn answer(alloc: Global, graph: &mut EGraph<Small>, line: &str) -> Result<String
         _ => {}
     }
     let (word, texts) = line.split_once(" ").unwrap_or((line, ""));
-    if word == "explain" {
-        return explained(alloc, graph, texts);
+    match word {
+        "explain" => return explained(alloc, graph, texts),
+        "verdict" => return Ok(String::from_str(alloc, verdict(alloc, graph, texts)?)?),
+        _ => {}
     }
     let holds = answer_of_texts(alloc, graph, word, texts)?;
     Ok(String::from_str(alloc, told(word, holds))?)

@@ -3,6 +3,7 @@
 //! For `P / Q` a row is about the node of P over the children of Q.
 use crate::reading::parted;
 use crate::writing::{debugged, write_shown, write_test};
+use slotted_changes::mark_change;
 use slotted_languages::LanguageChildren;
 use slotted_patterns::Pattern;
 use slotted_slots::{AppliedId, Error, Id, SlotMap, SlotTable};
@@ -192,6 +193,26 @@ fn are_alike(alloc: Global, words: &str, table: &mut SlotTable) -> Result<bool, 
     left.alpha_eq(alloc, &right)
 }
 
+// Writes the texts of two terms with the place marked at which they differ, or `none` if they are alpha-equal.
+fn write_marked(
+    alloc: Global,
+    words: &str,
+    table: &mut SlotTable,
+    text: &mut String,
+) -> Result<(), Error> {
+    let (left, right) = parted(words, " == ");
+    let left = read_term(alloc, left, table)?;
+    let right = read_term(alloc, right, table)?;
+    match mark_change(alloc, &left, &right, table)? {
+        Some(texts) => {
+            let first = &texts.first;
+            let second = &texts.second;
+            Ok(write!(text, "{first} | {second}")?)
+        }
+        None => Ok(text.push_str("none")?),
+    }
+}
+
 // Writes the derived form of the pattern of a copy, which has to be alpha-equal to its source.
 fn write_term_copy(
     alloc: Global,
@@ -246,6 +267,9 @@ pub(crate) fn write_term(
 ) -> Result<(), Error> {
     if call == "alike" {
         return write_test(are_alike(alloc, words, table), text);
+    }
+    if call == "mark" {
+        return write_marked(alloc, words, table, text);
     }
     let term = read_term(alloc, words, table)?;
     write_term_printed(alloc, call, &term, table, text)

@@ -15,3 +15,4 @@ pub mod Turns
 pub mod Methods
 pub mod Searches
 pub mod Decisions
+pub mod DecidedExtractions

@@ -5,16 +5,24 @@
 --     ProvesTerms written g h t u x      so it was; a yes has a printed proof, and a no is right
 --     DecideRefused g h e         the graph had failed; or memory or slots ran out, or a step did not fit
 --     RunsDecided form rules limits g h r     these rules were run, and the graph was decided after each turn; each new asserted equation comes from one of them
+--     ExtractsDecided written costs g h t x      the graph was decided, from g to h, and x has a term of least cost that follows; after a yes no term that follows costs less
+--     ExtractDecidedRefused ..    such an extraction was refused
 --     DecidedRunRefused ..        such a run was refused
-use Rattle.std.specs.Prelude.{◌≡◌, ◌⊎◌, ⊤, ℕ, Bool, List, false, map, IsTrue, String, string_bytes}
+use Rattle.std.specs.Prelude.{◌≡◌, ◌⊎◌, ⊤, ℕ, Bool, List, Some, false, map, IsTrue, String, string_bytes}
 use Rattle.slotted_slots.specs.declared.error.Error.{Error}
 use Rattle.slotted_slots.specs.Syntax.{Element}
 use Rattle.slotted_theory.specs.Derives.{Derives, nameless_pair}
 use Rattle.slotted_theory.specs.Term.{Term}
 use Rattle.slotted_nodes.specs.Form.{Form}
-use Rattle.slotted_operations.specs.Graph.{Graph, OnlyTakesSlots}
+use Rattle.slotted_terms.specs.Shown.{term_text}
+use Rattle.slotted_terms.specs.Valid.{IsValidTerm}
+use Rattle.slotted_model.specs.Applied.{Applied}
+use Rattle.slotted_model.specs.Cost.{AtMost, CostFunction}
+use Rattle.slotted_costs.specs.Costs.{MayRefuse, cost_of_term}
+use Rattle.slotted_operations.specs.Graph.{Graph, OnlyTakesSlots, id_of_term}
 use Rattle.slotted_operations.specs.Image.{Image, asserted_in}
 use Rattle.slotted_graph.specs.Extension.{ExtendsTo}
+use Rattle.slotted_graph.specs.LeastTerms.{IsLeastTerm}
 use Rattle.slotted_explain.specs.Printed.{IsProofText}
 use Rattle.slotted_rules.specs.Applying.{AreRefusedBy, NeverModified}
 use Rattle.slotted_rules.specs.Counting.{RefusesRule}
@@ -32,6 +40,7 @@ use Rattle.slotted_decided.specs.declared.running.DecidedLimits.{DecidedLimits}
 use Rattle.slotted_decided.specs.declared.running.DecidedRun.{DecidedRun}
 use Rattle.slotted_workspace.specs.Asked.{FollowsIn, HadFailed}
 use Rattle.slotted_workspace.specs.declared.deciding.ExplainedText.{ExplainedText}
+use Rattle.slotted_workspace.specs.declared.extracting.LeastText.{LeastText}
 use Rattle.slotted_workspace.specs.declared.deciding.ExplainedText.TheVariants.{Proved, Undecided, Unequal}
 
 abbrev pub NeverFollows : Image → Term → Term → Type 0
@@ -78,3 +87,23 @@ pub record RunsDecided {L : Type 0} (form : L → Form) (rules : List (Rewrite L
 abbrev pub DecidedRunRefused : {L : Type 0} → (L → Form) → List (Rewrite L CondTree) → Graph → Graph → Error → Type 0
 DecidedRunRefused form rules g h e =
     HadFailed g h e ⊎ ((g.failed ≡ false) × (IsTrue h.failed ⊎ ExtendsTo g h) × (CanRefuse e ⊎ AreRefusedBy (RefusesRule form (λ c s _. TreeRefuses c s)) rules e))
+
+pub record ExtractsDecided {C : Type 0} (written : Term → List Element) (costs : CostFunction C) (g h : Graph) (t : Term) (x : LeastText C) : Type 0 where
+  pub well : g.failed ≡ false
+  pub between : Graph
+  pub goes : GoesTo g between
+  pub id : Applied
+  pub is_id : id_of_term between t ≡ Some id
+  pub term : Term
+  pub least : IsLeastTerm between costs id term
+  pub size : x.cost ≡ cost_of_term costs term
+  pub no_larger : AtMost costs x.cost (cost_of_term costs t)
+  pub follows : FollowsIn between.image t term
+  pub decided : IsTrue x.is_decided → IsDecidedGraph between
+  pub least_of_all : IsTrue x.is_decided → (u : Term) (E : List (Term × Term)) → map nameless_pair E ≡ asserted_in between.image → Derives E t u → AtMost costs x.cost (cost_of_term costs u)
+  pub known : IsValidTerm h.table term
+  pub bytes : string_bytes x.text ≡ term_text written h.table term
+  pub takes : OnlyTakesSlots between h
+
+abbrev pub ExtractDecidedRefused : (Error → Type 0) → Graph → Graph → Error → Type 0
+ExtractDecidedRefused refuses g h e = HadFailed g h e ⊎ ((g.failed ≡ false) × (IsTrue h.failed ⊎ ExtendsTo g h) × (CanRefuse e ⊎ MayRefuse refuses e))

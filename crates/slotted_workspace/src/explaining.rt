@@ -50,3 +50,23 @@ pub(crate) fn chain<L: Printable>(
     let _ = graph.is_failed();
     proof.to_flat_string(alloc, graph)
 }
+
+/// Returns the chain of terms of a proof that two kept terms are equal, with the changed places marked.
+pub(crate) fn marked_chain<L: Printable>(
+    alloc: Global,
+    graph: &mut EGraph<L>,
+    left: &Kept<L>,
+    right: &Kept<L>,
+) -> Result<String, Error>
+    requires left { IsTrue graph.old.failed ⊎ IsKept graph.old left.now }
+    requires right { IsTrue graph.old.failed ⊎ IsKept graph.old right.now }
+    ensures ok { OnOk result (ChainsTerms graph.old graph.new left.now.term right.now.term) }
+    ensures err { IfErr result (ChainRefused graph.old graph.new left.now.term right.now.term) }
+    ensures extends { IsTrue graph.new.failed ⊎ ExtendsTo graph.old graph.new }
+    ensures stays { IsTrue graph.old.failed → graph.new ≡ graph.old }
+{
+    let proof = graph.explain_equivalence(&left.term, &right.term)?;
+    // This call is there for its clauses: what holds of each graph that has not failed.
+    let _ = graph.is_failed();
+    proof.to_marked_string(alloc, graph)
+}

@@ -21,7 +21,7 @@ pub mod workspace;
 
 pub use deciding::ExplainedText;
 pub use error::WorkspaceError;
-pub use extracting::Extracted;
+pub use extracting::{Extracted, LeastText};
 pub use handle::Handle;
 pub use numbers::WorkspaceNumbers;
 pub use running::Limits;

@@ -10,7 +10,7 @@ ghost use Rattle.slotted_slots.specs.Table.{gives, named_of};
 ghost use Rattle.slotted_workspace.specs.Asked.{NamingRefused, UnionRefused, AddsTerm, KeepsRule, RuleRefused};
 ghost use Rattle.slotted_workspace.specs.Asked.{DrawRefused, Draws, ExtractsBy, ExtractByRefused};
 ghost use Rattle.slotted_workspace.specs.Asked.{HasMatches, PatternRefused, ReadsPattern, SearchRefused};
-ghost use Rattle.slotted_workspace.specs.Decided.{DecidedRunRefused, DecideRefused, DecidesGraph, JudgesTerms, ProvesTerms, RunsDecided};
+ghost use Rattle.slotted_workspace.specs.Decided.{DecidedRunRefused, DecideRefused, DecidesGraph, ExtractDecidedRefused, ExtractsDecided, JudgesTerms, ProvesTerms, RunsDecided};
 ghost use Rattle.slotted_workspace.specs.RuleTexts.{KeepsRules, RefusesText};
 ghost use Rattle.slotted_workspace.specs.Runs.{HasRun, OfRules, RunRefused};
 ghost use Rattle.slotted_workspace.specs.Saturating.{HasRulesRun};
@@ -20,8 +20,8 @@ ghost use Rattle.slotted_workspace.specs.Turns.{TakesTurn, TurnRefused};
 use crate::deciding::{ExplainedText, decided, judged, proved, run_rules_decided};
 use crate::drawing::{drawn, dumped};
 use crate::error::WorkspaceError;
-use crate::explaining::{chain, explanation};
-use crate::extracting::{Extracted, cheapest};
+use crate::explaining::{chain, explanation, marked_chain};
+use crate::extracting::{Extracted, LeastText, cheapest, least_of_all};
 use crate::handle::Handle;
 use crate::kept::{Kept, both_at, kept_at};
 use crate::numbers::WorkspaceNumbers;
@@ -413,6 +413,19 @@ impl<L: Printable> Workspace<L> {
         Ok(chain(self.alloc, &mut self.graph, left, right)?)
     }
 
+    /// Returns a proof that two terms are equal as a chain of terms for people: for each assertion that is used the term
+    /// before it and the term after it, each with the smallest changed place between `[` and `]`, and between them the
+    /// assertion. The lines are those of `to_marked_string` of slotted_explain.
+    pub fn explain_marked(&mut self, a: Handle, b: Handle) -> Result<String, WorkspaceError>
+        ensures ok { OnOk result (OfBoth self.old a b (ChainsTerms self.old.graph self.new.graph)) }
+        ensures rest { OnOk result (ChangesGraph self.old self.new) }
+        ensures err { IfErr result (RefusesBoth self.old self.new a b
+            (ChainRefused self.old.graph self.new.graph)) }
+    {
+        let (left, right) = both_at(&self.kept, self.number, a, b)?;
+        Ok(marked_chain(self.alloc, &mut self.graph, left, right)?)
+    }
+
     /// Returns a term of the fewest e-nodes that is equal to the handle's term, and its number of e-nodes.
     pub fn extract(&mut self, a: Handle) -> Result<Extracted<u64>, WorkspaceError>
         ensures ok { IfOk result (λ x. OfOne self.old a
@@ -438,5 +451,24 @@ impl<L: Printable> Workspace<L> {
     {
         let kept = kept_at(&self.kept, self.number, a)?;
         Ok(cheapest(self.alloc, &mut self.graph, kept, costs)?)
+    }
+
+    /// Decides the symmetries of the graph, and returns a term of least cost that is equal to the handle's term, by a
+    /// cost function. If the graph is decided, no term that follows from what was asserted costs less. At most `limit`
+    /// e-nodes are added.
+    pub fn extract_decided<C: CostFunction<L>>(
+        &mut self,
+        a: Handle,
+        costs: C,
+        limit: usize,
+    ) -> Result<LeastText<C::Cost>, WorkspaceError>
+        ensures ok { IfOk result (λ x. OfOne self.old a (λ t. ExtractsDecided L.written
+            (costs_by C.Cost.cmp (C.node_cost costs)) self.old.graph self.new.graph t x)) }
+        ensures rest { OnOk result (ChangesGraph self.old self.new) }
+        ensures err { IfErr result (RefusesOne self.old self.new a
+            (λ _. ExtractDecidedRefused C.refuses self.old.graph self.new.graph)) }
+    {
+        let kept = kept_at(&self.kept, self.number, a)?;
+        Ok(least_of_all(self.alloc, &mut self.graph, kept, costs, limit)?)
     }
 }

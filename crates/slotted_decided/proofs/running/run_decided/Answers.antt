@@ -11,7 +11,7 @@ use Rattle.slotted_slots.specs.declared.error.Error.TheVariants.{Failed}
 use Rattle.slotted_deciding.specs.Steps.{CanRefuse}
 use Rattle.slotted_deciding.proofs.Refusals.{so-well}
 use Rattle.slotted_decided.specs.Turns.{HasRunDecided}
-use Rattle.slotted_decided.proofs.DecidedTurns.{later-extends, no-refusal_fails, run-begins, run-undecided, started-well}
+use Rattle.slotted_decided.proofs.DecidedTurns.{later-extends, later-lowers, no-refusal_fails, run-begins, run-undecided, started-well}
 use Rattle.slotted_decided.proofs.running.run_decided.Goals as goal
 
 pub returns-then-not-branch-clause-run : goal.returns-then-not-branch-clause-run
@@ -59,3 +59,12 @@ pub returns-clause-err : goal.returns-clause-err
 returns-clause-err g c =
     let R = AreRefusedBy (RefusesRule g.L.LanguageChildren.form g.C.Cond.refuses) c.args.rules.now in
     IfErr-weaker c.take_turns.result (λ e. CanRefuse e ⊎ R e) (λ e. (e ≡ Failed) ⊎ CanRefuse e ⊎ R e) (λ e r. inr r) c.take_turns.ensures.err
+
+pub returns-then-not-branch-clause-lowers : goal.returns-then-not-branch-clause-lowers
+returns-then-not-branch-clause-lowers g c = c.in_ok-decide.ensures.lowers
+
+pub returns-clause-lowers : goal.returns-clause-lowers
+returns-clause-lowers g c =
+    let h = c.decide.new.graph in
+    let goes = so-well h.failed (λ bad. false≢true (c.in_ok-decide.ensures.fails.0 bad)) c.in_ok-decide.ensures.goes in
+    later-lowers g.N.Analysis.codes g.N.Analysis.meaning g.met.N.Analysis.is_merge c.args.graph.now h c.take_turns.new.graph goes.extends (so-well h.failed (λ bad. false≢true (c.in_ok-decide.ensures.fails.0 bad)) c.in_ok-decide.ensures.lowers) c.take_turns.ensures.lowers

@@ -1,5 +1,6 @@
 -- each turn goes on from where the ones before it led, and ended with a decision
 use Rattle.std.proofs.Common.{◌≡◌, ◌-◌, ◌≤◌, false, length}
+use Rattle.slotted_graph.specs.Analysed.{LowersData}
 use Rattle.slotted_graph.specs.Extension.{ExtendsTo}
 use Rattle.slotted_symmetries.specs.Equality.{IsDecidedGraph}
 use Rattle.slotted_rules.specs.Applying.{AreModified}
@@ -10,6 +11,7 @@ abbrev pub invariant-loop-alloc : goal.invariant-loop-alloc
 invariant-loop-alloc g l = record {
   well : l.graph.failed ≡ false;
   extends : ExtendsTo l.fn.graph l.graph;
+  lowers : LowersData g.N.Analysis.codes g.N.Analysis.meaning l.fn.graph l.graph;
   decided : IsDecidedGraph l.graph;
   within : length l.turns.items ≤ l.limits.turns;
   turns : GoesDecided g.L.LanguageChildren.form g.C.Cond.answers l.rules (AreModified g.N.Analysis.codes g.N.Analysis.meaning g.N.Analysis.may_ask g.N.Analysis.modifies) l.fn.graph l.turns.items l.graph;

@@ -1,8 +1,9 @@
 use Rattle.std.proofs.Common.{inr}
 use Rattle.std.proofs.lemmas.Bool.{false≢true}
 use Rattle.slotted_operations.proofs.CallerLemmas.{term_later}
-use Rattle.slotted_deciding.proofs.Growing.{goes-then}
+use Rattle.slotted_deciding.proofs.Growing.{leads-then, leads-with}
 use Rattle.slotted_deciding.proofs.Unions.{goes-added, good-graph}
+use Rattle.slotted_graph.proofs.Saying.{carried-lowers}
 use Rattle.slotted_deciding.proofs.asking.add_both.Goals as goal
 
 pub add_syn_expr_quietly-requires-2 : goal.add_syn_expr_quietly-requires-2
@@ -13,6 +14,8 @@ returns-clause-goes g c =
     let start = c.args.graph.now in
     let k = c.add_syn_expr_quietly.new.self in
     let h = c.add_syn_expr_quietly-2.new.self in
-    let one = goes-added start k (good-graph k (λ bad. false≢true (c.in_ok-one.ensures.fails.0 bad)) c.is_failed.ensures.rests) c.in_ok-one.ensures.extends c.in_ok-one.ensures.adds c.add_syn_expr_quietly.ensures.more in
-    goes-then start k h one
-    (goes-added k h (good-graph h (λ bad. false≢true (c.in_ok-two.ensures.fails.0 bad)) c.is_failed-2.ensures.rests) c.in_ok-two.ensures.extends c.in_ok-two.ensures.adds c.add_syn_expr_quietly-2.ensures.more)
+    let one = leads-with g.N.Analysis.codes g.N.Analysis.meaning start k (goes-added start k (good-graph k (λ bad. false≢true (c.in_ok-one.ensures.fails.0 bad)) c.is_failed.ensures.rests) c.in_ok-one.ensures.extends c.in_ok-one.ensures.adds c.add_syn_expr_quietly.ensures.more)
+    (carried-lowers g.N.Analysis.codes g.N.Analysis.meaning start k c.in_ok-one.ensures.carries) in
+    leads-then g.N.Analysis.codes g.N.Analysis.meaning g.met.N.Analysis.is_merge start k h one
+    (leads-with g.N.Analysis.codes g.N.Analysis.meaning k h (goes-added k h (good-graph h (λ bad. false≢true (c.in_ok-two.ensures.fails.0 bad)) c.is_failed-2.ensures.rests) c.in_ok-two.ensures.extends c.in_ok-two.ensures.adds c.add_syn_expr_quietly-2.ensures.more)
+    (carried-lowers g.N.Analysis.codes g.N.Analysis.meaning k h c.in_ok-two.ensures.carries))

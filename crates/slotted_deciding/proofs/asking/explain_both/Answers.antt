@@ -4,7 +4,7 @@ use Rattle.slotted_operations.proofs.CallerLemmas.{full-valid}
 use Rattle.slotted_graph.proofs.Extending.{full-extends}
 use Rattle.slotted_deciding.specs.Asking.{IsJudged}
 use Rattle.slotted_deciding.proofs.Asked.{different-terms}
-use Rattle.slotted_deciding.proofs.Growing.{goes-then, on_ok_by}
+use Rattle.slotted_deciding.proofs.Growing.{leads-then, on_ok_by}
 use Rattle.slotted_deciding.proofs.asking.explain_both.Goals as goal
 
 pub judge-requires-clause-left : goal.judge-requires-clause-left
@@ -15,7 +15,7 @@ judge-requires-clause-right g c = full-valid c.args.graph.now (to_applied c.args
 
 pub returns-in-Yes-clause-goes : goal.returns-in-Yes-clause-goes
 returns-in-Yes-clause-goes g c =
-    on_ok_by c.prove_both.result (goes-then c.args.graph.now c.judge.new.graph c.prove_both.new.graph c.in_ok-judge.ensures.goes) c.prove_both.ensures.goes
+    on_ok_by c.prove_both.result (leads-then g.N.Analysis.codes g.N.Analysis.meaning g.met.N.Analysis.is_merge c.args.graph.now c.judge.new.graph c.prove_both.new.graph c.in_ok-judge.ensures.goes) c.prove_both.ensures.goes
 
 pub returns-in-No-clause-explained : goal.returns-in-No-clause-explained
 returns-in-No-clause-explained g c =

@@ -1,10 +1,10 @@
 use Rattle.std.proofs.Common.{arith}
 use Rattle.std.proofs.lemmas.Result.{IfOk-weaker}
-use Rattle.slotted_deciding.proofs.Growing.{all-decided, goes-takes, graph-takes, on_ok, takes-then}
+use Rattle.slotted_deciding.proofs.Growing.{all-decided, leads-takes, graph-takes, on_ok, takes-then}
 use Rattle.slotted_deciding.proofs.deciding.any_missing.Goals as goal
 
 pub returns-in-Some-clause-goes : goal.returns-in-Some-clause-goes
-returns-in-Some-clause-goes g c = goes-takes c.args.graph.now c.first_missing.new.graph c.requires.graph c.first_missing.ensures.takes
+returns-in-Some-clause-goes g c = leads-takes g.N.Analysis.codes g.N.Analysis.meaning g.met.N.Analysis.is_merge c.args.graph.now c.first_missing.new.graph c.requires.graph c.first_missing.ensures.takes
 
 pub first_missing-requires-2 : goal.first_missing-requires-2
 first_missing-requires-2 g c = record { graph = graph-takes c.args.graph.now c.first_missing.new.graph c.requires.graph c.first_missing.ensures.takes }
@@ -20,4 +20,4 @@ pub returns-clause-goes : goal.returns-clause-goes
 returns-clause-goes g c =
     let h = c.first_missing-2.new.graph in
     on_ok c.first_missing-2.result
-    (goes-takes c.args.graph.now h c.requires.graph (takes-then c.args.graph.now c.first_missing.new.graph h c.first_missing.ensures.takes c.first_missing-2.ensures.takes))
+    (leads-takes g.N.Analysis.codes g.N.Analysis.meaning g.met.N.Analysis.is_merge c.args.graph.now h c.requires.graph (takes-then c.args.graph.now c.first_missing.new.graph h c.first_missing.ensures.takes c.first_missing-2.ensures.takes))

@@ -1,5 +1,5 @@
-use Rattle.slotted_deciding.specs.Steps.{GoesTo}
+use Rattle.slotted_deciding.specs.Steps.{LeadsTo}
 use Rattle.slotted_deciding.proofs.stepping.add_fresh.Given as goal
 
 abbrev pub invariant-loop-i : goal.invariant-loop-i
-invariant-loop-i g l = GoesTo l.fn.graph l.graph
+invariant-loop-i g l = LeadsTo g.N.Analysis.codes g.N.Analysis.meaning l.fn.graph l.graph

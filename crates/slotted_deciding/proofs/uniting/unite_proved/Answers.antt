@@ -3,6 +3,8 @@ use Rattle.std.proofs.lemmas.Bool.{false≢true}
 use Rattle.slotted_proofs.specs.Equations.{to_applied}
 use Rattle.slotted_operations.proofs.CallerLemmas.{full-valid}
 use Rattle.slotted_deciding.proofs.Unions.{goes-united, good-graph, said-full}
+use Rattle.slotted_graph.proofs.Saying.{carried-lowers}
+use Rattle.slotted_deciding.proofs.Growing.{leads-with}
 use Rattle.slotted_deciding.proofs.uniting.unite_proved.Goals as goal
 
 pub returns-clause-goes : goal.returns-clause-goes
@@ -12,8 +14,9 @@ returns-clause-goes g c =
     let left = said-full graph (to_applied e.l) c.is_full.result c.is_full.ensures c.if-not-is_full.false in
     let right = said-full graph (to_applied e.r) c.is_full-2.result c.is_full-2.ensures c.if-not-is_full-2.false in
     let is = good-graph c.union_quietly.new.self (λ bad. false≢true (c.in_ok-union_quietly.ensures.fails.0 bad)) c.is_failed.ensures.rests in
-    goes-united graph c.union_quietly.new.self e.l e.r _ c.in_ok-union_quietly.field-0 is left right
-    (c.args.proof, c.requires.stands.0, c.requires.stands.1) c.in_ok-union_quietly.ensures.union c.in_ok-union_quietly.ensures.text c.in_ok-union_quietly.ensures.table
+    let goes = goes-united graph c.union_quietly.new.self e.l e.r _ c.in_ok-union_quietly.field-0 is left right
+    (c.args.proof, c.requires.stands.0, c.requires.stands.1) c.in_ok-union_quietly.ensures.union c.in_ok-union_quietly.ensures.text c.in_ok-union_quietly.ensures.table in
+    leads-with g.N.Analysis.codes g.N.Analysis.meaning graph c.union_quietly.new.self goes (carried-lowers g.N.Analysis.codes g.N.Analysis.meaning graph c.union_quietly.new.self c.in_ok-union_quietly.ensures.carries)
 
 pub union_quietly-requires-clause-left : goal.union_quietly-requires-clause-left
 union_quietly-requires-clause-left g c =

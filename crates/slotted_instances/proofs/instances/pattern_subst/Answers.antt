@@ -7,7 +7,7 @@ use Rattle.slotted_rule_patterns.specs.Values.{values_of}
 use Rattle.slotted_instances.proofs.Carrying.{carries-itself, left-carries}
 use Rattle.slotted_instances.specs.Instances.{InstantiatesKnown}
 use Rattle.slotted_instances.specs.Refusals.{IsMissing, PassesTests}
-use Rattle.slotted_instances.proofs.Refusing.{left-extends, missing-long, tests-passed}
+use Rattle.slotted_instances.proofs.Refusing.{left-extends, missing-left, missing-long, tests-passed}
 use Rattle.slotted_instances.proofs.instances.pattern_subst.Goals as goal
 
 pub returns-clause-extends : goal.returns-clause-extends
@@ -31,3 +31,8 @@ returns-clause-carries g c = left-carries g.N.Analysis.codes g.N.Analysis.meanin
 
 pub returns-then-not-is_whole-clause-carries : goal.returns-then-not-is_whole-clause-carries
 returns-then-not-is_whole-clause-carries g c = inr (carries-itself g.N.Analysis.codes g.N.Analysis.meaning g.met.N.Analysis.is_merge c.args.graph.now)
+
+pub returns-clause-missing : goal.returns-clause-missing
+returns-clause-missing g c well whole some =
+    missing-left (values_of c.args.subst.now) (tree_of g.L.LanguageChildren.form c.args.pattern.now) c.args.graph.now c.instance-answer.new.graph c.failing.new.graph c.instance-answer.result c.failing.result
+    c.failing.ensures.same c.failing.ensures.left (c.instance-answer.ensures.missing some)

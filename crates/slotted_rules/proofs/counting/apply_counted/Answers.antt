@@ -3,10 +3,10 @@ use Rattle.std.proofs.Common.{◌∙◌, ◌↔◌, sym}
 use Rattle.std.specs.Prelude.{IsTrue}
 use Rattle.slotted_graph.specs.Extension.{ExtendsTo}
 use Rattle.slotted_rules.specs.Applying.{AreRefusedBy, HasProgressed}
-use Rattle.slotted_rules.specs.Counting.{RefusesRule}
+use Rattle.slotted_rules.specs.Counting.{RefusesCounted, RefusesRule}
 use Rattle.slotted_graph.specs.Analysed.{LowersData}
 use Rattle.slotted_rules.proofs.Counted.{no-rule_fails}
-use Rattle.slotted_rules.proofs.LeftGraphs.{left-failed, left-fails, left-ok, left-so}
+use Rattle.slotted_rules.proofs.LeftGraphs.{left-err, left-failed, left-fails, left-ok, left-so}
 use Rattle.slotted_rules.proofs.counting.apply_counted.Goals as goal
 
 pub returns-clause-changed : goal.returns-clause-changed
@@ -34,3 +34,8 @@ returns-clause-fails g c =
 
 pub returns-clause-lowers : goal.returns-clause-lowers
 returns-clause-lowers g c = left-so (LowersData g.N.Analysis.codes g.N.Analysis.meaning c.args.graph.now) c.count_turn-turn.new.graph c.failing.new.graph c.count_turn-turn.result c.count_turn-turn.ensures.lowers c.failing.ensures.short c.failing.ensures.other
+
+pub returns-clause-refused : goal.returns-clause-refused
+returns-clause-refused g c =
+    left-err c.args.graph.now c.count_turn-turn.new.graph c.failing.new.graph c.count_turn-turn.result c.failing.result c.failing.ensures.same c.failing.ensures.short c.failing.ensures.other
+    (λ e h. RefusesCounted g.L.LanguageChildren.form g.C.Cond.answers g.C.Cond.refuses c.args.rules.now c.args.graph.now h e) c.count_turn-turn.ensures.refused

@@ -1,21 +1,22 @@
 -- Each rule is applied in the graph that the ones before it left, and counted.
 use Rattle.std.proofs.Common.{◌≡◌, ◌∙◌, ◌++◌, ◌∷◌, [], ℕ, List, Option, Some, false, Result, IfErr, refl, ap, sym, subst, inl, inr}
-use Rattle.std.specs.Prelude.{◌⊎◌, option_to_list}
+use Rattle.std.specs.Prelude.{◌⊎◌, IsTrue, map, option_to_list}
 use Rattle.slotted_slots.specs.declared.error.Error.{Error}
 use Rattle.slotted_slots.specs.declared.error.Error.TheVariants.{Failed}
 use Rattle.slotted_slots.specs.Error.{IsShortage}
 use Rattle.slotted_languages.proofs.HandedOn.{handed_err}
 use Rattle.slotted_model_rules.specs.Conditions.{Values}
 use Rattle.slotted_graph.proofs.Extending.{extends-then}
-use Rattle.slotted_rules.specs.Applying.{AreRefusedBy}
-use Rattle.slotted_rules.specs.Counting.{CanApplyRule, RefusesRule, UnitesRule}
+use Rattle.slotted_operations.specs.Graph.{Graph}
+use Rattle.slotted_rules.specs.Applying.{AreRefusedBy, StopsApplying}
+use Rattle.slotted_rules.specs.Counting.{AppliesRule, BreaksRule, CanApplyRule, RefusesRule, UnitesRule}
 use Rattle.slotted_rules.specs.Written.{CanBeSearched}
 use Rattle.slotted_rules.specs.WrittenLaws.{apply-later, valid-later}
 use Rattle.slotted_patterns.specs.View.{tree_of}
 use Rattle.slotted_graph.proofs.Saying.{lowers-itself}
 use Rattle.slotted_rules.proofs.Lowering.{later-lowers}
-use Rattle.slotted_rules.proofs.AppliedRules.{not-failed, not-failed-so, ok-well, refused-one}
-use Rattle.slotted_rules.proofs.Counted.{counts-more, done-can, done-more, done-whole, none-done}
+use Rattle.slotted_rules.proofs.AppliedRules.{applying-stops, not-failed, not-failed-so, ok-well, refused-one, shortage_of}
+use Rattle.slotted_rules.proofs.Counted.{applied-keys, counts-more, done-can, done-more, done-whole, none-done}
 use Rattle.slotted_rules.proofs.counting.count_all.Goals as goal
 
 popped : {F : Type 0} (old new : List F) (o : Option F) (x : F) → old ≡ option_to_list o ++ new → o ≡ Some x → old ≡ x ∷ new
@@ -90,3 +91,23 @@ returns-in_err-push-in-Some-clause-lowers g c = later-lowers g.N.Analysis.codes 
 
 pub returns-clause-lowers : goal.returns-clause-lowers
 returns-clause-lowers g c = inr c.loop-rule.invariant.3
+
+pub returns-in_err-count_one-in-Some-clause-refused : goal.returns-in_err-count_one-in-Some-clause-refused
+returns-in_err-count_one-in-Some-clause-refused g c =
+    let form = g.L.LanguageChildren.form in
+    let holds = g.C.Cond.answers in
+    let breaks = BreaksRule form holds g.C.Cond.refuses in
+    let e = c.in_err-count_one-in-Some.field-0.0 in
+    let was = c.in_err-count_one-in-Some.was in
+    let f = c.loop-rule.graph in
+    let h = c.count_one.new.graph in
+    let done = c.loop-rule.invariant.0 in
+    let so_far = c.loop-rule.invariant.1 in
+    let new = c.pop_front.new.self.items in
+    let x = c.in-Some.next in
+    handed_err c.from_residual.result e c.from_residual.ensures.1 (λ y. IsShortage y ⊎ StopsApplying (AppliesRule form holds) breaks c.args.rules.now c.args.found.items c.args.graph.now h y)
+    (applying-stops (AppliesRule form holds) breaks c.args.rules.now c.loop-rule.rule-index c.rule-item.result c.loop-rule-test.true c.rule-item.is c.args.found.items (map (λ k. k.0) done) c.loop-rule.left.items new x so_far.whole
+    (popped c.loop-rule.left.items new c.pop_front.result x c.pop_front.ensures.items c.in-Some.is) c.args.graph.now f h
+    (applied-keys (λ (k : List Values × ℕ). k.0) (UnitesRule form holds) (AppliesRule form holds) (λ r k a b united. united.0) so_far.applied) e
+    (λ failed. shortage_of c.count_one.result e was (not-failed c.count_one.result e was f.failed so_far.well c.count_one.ensures.failed) (c.count_one.ensures.fails failed))
+    (subst (λ (r : Result _ Error). IfErr r (λ y. IsTrue h.failed ⊎ breaks c.rule-item.result x f h y)) was c.count_one.ensures.left))

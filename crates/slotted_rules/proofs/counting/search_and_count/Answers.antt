@@ -7,8 +7,8 @@ use Rattle.slotted_model_rules.specs.Runners.{SearchesAll}
 use Rattle.slotted_operations.specs.Graph.{Graph}
 use Rattle.slotted_graph.specs.Extension.{ExtendsTo}
 use Rattle.slotted_graph.proofs.Extending.{extends-then}
-use Rattle.slotted_rules.specs.Applying.{AreRefusedBy}
-use Rattle.slotted_rules.specs.Counting.{RefusesRule, SearchesRule}
+use Rattle.slotted_rules.specs.Applying.{AreRefusedBy, StopsApplying, StopsSearching, apply_refused, search_refused}
+use Rattle.slotted_rules.specs.Counting.{AppliesRule, BreaksRule, RefusesCounted, RefusesRule, SearchesRule}
 use Rattle.slotted_rules.specs.WrittenLaws.{valid-later}
 use Rattle.slotted_rules.proofs.Lowering.{later-lowers}
 use Rattle.slotted_rules.proofs.AppliedRules.{not-failed-so, ok-well}
@@ -61,3 +61,36 @@ returns-clause-lowers g c =
     let f = c.search_all.new.graph in
     let well : f.failed ≡ false = ok-well _ f.failed c.search_all.result c.in_ok-found.found c.in_ok-found.was c.search_all.ensures.fails in
     later-lowers g.N.Analysis.codes g.N.Analysis.meaning g.met.N.Analysis.is_merge c.args.graph.now f c.count_all.new.graph (not-failed-so f.failed well c.search_all.ensures.extends) (not-failed-so f.failed well c.search_all.ensures.lowers) c.count_all.ensures.lowers
+
+pub returns-in_err-found-clause-refused : goal.returns-in_err-found-clause-refused
+returns-in_err-found-clause-refused g c =
+    let form = g.L.LanguageChildren.form in
+    let e = c.in_err-found.field-0.0 in
+    let rules = c.args.rules.now in
+    let g0 = c.args.graph.now in
+    let h = c.search_all.new.graph in
+    let stops : IsShortage e ⊎ StopsSearching (SearchesRule form) (λ _ _ _ _. ⊥) rules g0 h e =
+    subst (λ (r : Result _ Error). IfErr r (λ y. IsShortage y ⊎ StopsSearching (SearchesRule form) (λ _ _ _ _. ⊥) rules g0 h y)) c.in_err-found.was c.search_all.ensures.refused in
+    handed_err c.from_residual.result e c.from_residual.ensures.1 (λ y. IsShortage y ⊎ RefusesCounted form g.C.Cond.answers g.C.Cond.refuses rules g0 h y)
+    (elim stops [
+      | inl short ↦ inl short
+      | inr s ↦ inr (search_refused s)
+    ])
+
+pub returns-in_err-count_all-clause-refused : goal.returns-in_err-count_all-clause-refused
+returns-in_err-count_all-clause-refused g c =
+    let form = g.L.LanguageChildren.form in
+    let applies = AppliesRule form g.C.Cond.answers in
+    let breaks = BreaksRule form g.C.Cond.answers g.C.Cond.refuses in
+    let e = c.in_err-count_all.field-0.0 in
+    let rules = c.args.rules.now in
+    let founds = c.in_ok-found.found.items in
+    let f = c.search_all.new.graph in
+    let h = c.count_all.new.graph in
+    let stops : IsShortage e ⊎ StopsApplying applies breaks rules founds f h e =
+    subst (λ (r : Result _ Error). IfErr r (λ y. IsShortage y ⊎ StopsApplying applies breaks rules founds f h y)) c.in_err-count_all.was c.count_all.ensures.refused in
+    handed_err c.from_residual-in_err-count_all.result e c.from_residual-in_err-count_all.ensures.1 (λ y. IsShortage y ⊎ RefusesCounted form g.C.Cond.answers g.C.Cond.refuses rules c.args.graph.now h y)
+    (elim stops [
+      | inl short ↦ inl short
+      | inr s ↦ inr (apply_refused founds f c.in_ok-found.ensures.ok s)
+    ])

@@ -4,8 +4,8 @@ use Rattle.slotted_graph.specs.Extension.{ExtendsTo}
 use Rattle.slotted_rules.specs.Applying.{AreModified, AreRefusedBy}
 use Rattle.slotted_rules.specs.Counting.{RefusesRule}
 use Rattle.slotted_rules.proofs.Counted.{no-rule_fails}
-use Rattle.slotted_rules.proofs.LeftGraphs.{left-failed, left-fails, left-ok, left-so}
-use Rattle.slotted_runs.specs.Counted.{TakesTurns}
+use Rattle.slotted_rules.proofs.LeftGraphs.{left-err, left-failed, left-fails, left-ok, left-so}
+use Rattle.slotted_runs.specs.Counted.{BreaksTurns, TakesTurns}
 use Rattle.slotted_graph.specs.Analysed.{LowersData}
 use Rattle.slotted_runs.proofs.counted.run_counted.Goals as goal
 
@@ -34,3 +34,8 @@ returns-clause-fails g c =
 
 pub returns-clause-lowers : goal.returns-clause-lowers
 returns-clause-lowers g c = left-so (LowersData g.N.Analysis.codes g.N.Analysis.meaning c.args.graph.now) c.take_counted-taken.new.graph c.failing.new.graph c.take_counted-taken.result c.take_counted-taken.ensures.lowers c.failing.ensures.short c.failing.ensures.other
+
+pub returns-clause-refused : goal.returns-clause-refused
+returns-clause-refused g c =
+    left-err c.args.graph.now c.take_counted-taken.new.graph c.failing.new.graph c.take_counted-taken.result c.failing.result c.failing.ensures.same c.failing.ensures.short c.failing.ensures.other
+    (λ e h. BreaksTurns g.L.LanguageChildren.form g.C.Cond.answers g.C.Cond.refuses c.args.rules.now (AreModified g.N.Analysis.codes g.N.Analysis.meaning g.N.Analysis.may_ask g.N.Analysis.modifies) c.args.turn_limit c.args.graph.now h e) c.take_counted-taken.ensures.refused

@@ -1,6 +1,6 @@
 -- Each turn goes on from where the ones before it led.
 use Rattle.std.proofs.Common.{◌≡◌, ◌≤◌, ◌∷◌, [], List, false, length, length-append, Result, IfErr, ap, sym, subst, inl, inr, arith}
-use Rattle.std.specs.Prelude.{◌⊎◌}
+use Rattle.std.specs.Prelude.{◌⊎◌, IsTrue}
 use Rattle.slotted_slots.specs.declared.error.Error.{Error}
 use Rattle.slotted_slots.specs.declared.error.Error.TheVariants.{Failed}
 use Rattle.slotted_slots.specs.Error.{IsShortage}
@@ -8,12 +8,13 @@ use Rattle.slotted_languages.proofs.HandedOn.{handed_err}
 use Rattle.slotted_graph.specs.Extension.{ExtendsTo}
 use Rattle.slotted_graph.proofs.Extending.{extends-itself, extends-then}
 use Rattle.slotted_rules.specs.Applying.{AreModified, AreRefusedBy}
-use Rattle.slotted_rules.specs.Counting.{RefusesRule}
+use Rattle.slotted_rules.specs.Counting.{RefusesCounted, RefusesRule}
 use Rattle.slotted_rules.specs.WrittenLaws.{valid-later}
-use Rattle.slotted_rules.proofs.AppliedRules.{not-failed, not-failed-so, ok-well}
+use Rattle.slotted_rules.proofs.AppliedRules.{not-failed, not-failed-so, ok-well, shortage_of}
 use Rattle.slotted_rules.proofs.Lowering.{later-lowers}
 use Rattle.slotted_graph.proofs.Saying.{lowers-itself}
-use Rattle.slotted_runs.proofs.CountedTurns.{at-limit, no-turns, turn-added, turn-last}
+use Rattle.slotted_runs.specs.Counted.{BreaksTurns}
+use Rattle.slotted_runs.proofs.CountedTurns.{at-limit, no-turns, turn-added, turn-broken, turn-last}
 use Rattle.slotted_runs.proofs.counted.take_counted.Goals as goal
 
 -- no turn was refused for a failed graph
@@ -86,3 +87,18 @@ returns-in_err-push-clause-lowers g c = later-lowers g.N.Analysis.codes g.N.Anal
 
 pub returns-then-not-changed-clause-lowers : goal.returns-then-not-changed-clause-lowers
 returns-then-not-changed-clause-lowers g c = later-lowers g.N.Analysis.codes g.N.Analysis.meaning g.met.N.Analysis.is_merge c.args.graph.now c.loop-alloc.graph c.apply_counted.new.graph c.loop-alloc.invariant.extends c.loop-alloc.invariant.lowers c.apply_counted.ensures.lowers
+
+pub returns-in_err-turn-clause-refused : goal.returns-in_err-turn-clause-refused
+returns-in_err-turn-clause-refused g c =
+    let form = g.L.LanguageChildren.form in
+    let holds = g.C.Cond.answers in
+    let refuses = g.C.Cond.refuses in
+    let after = AreModified g.N.Analysis.codes g.N.Analysis.meaning g.N.Analysis.may_ask g.N.Analysis.modifies in
+    let e = c.in_err-turn.field-0.0 in
+    let was = c.in_err-turn.was in
+    let f = c.loop-alloc.graph in
+    let h = c.apply_counted.new.graph in
+    handed_err c.from_residual.result e c.from_residual.ensures.1 (λ x. IsShortage x ⊎ BreaksTurns form holds refuses c.args.rules.now after c.args.turn_limit c.args.graph.now h x)
+    (turn-broken form holds c.args.rules.now after c.args.turn_limit c.args.graph.now refuses c.loop-alloc.turns.items f h c.loop-alloc.invariant.turns (omega (arith, c.loop-alloc-test.true, c.len.ensures)) e
+    (λ failed. shortage_of c.apply_counted.result e was (not-failed c.apply_counted.result e was f.failed c.loop-alloc.invariant.well c.apply_counted.ensures.failed) (c.apply_counted.ensures.fails.0 failed))
+    (subst (λ (r : Result _ Error). IfErr r (λ x. IsTrue h.failed ⊎ RefusesCounted form holds refuses c.args.rules.now f h x)) was c.apply_counted.ensures.refused))

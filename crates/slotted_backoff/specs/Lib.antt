@@ -1,0 +1,2 @@
+-- What is said of rules that rest.
+pub mod Resting

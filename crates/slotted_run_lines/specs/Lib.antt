@@ -1,2 +1,0 @@
--- What is said of the rules of the tests.
-pub mod Resting
