@@ -1,6 +1,6 @@
 -- What a decided graph says of two ids and of two terms.
-use Rattle.std.proofs.Common.{◌≡◌, ◌∙◌, ℕ, List, Result, Ok, Err, IfOk, OnOk, ap, sym, subst, inl, inr}
-use Rattle.std.specs.Prelude.{◌⊎◌, ◌↔◌, Bool, true, false, IsTrue}
+use Rattle.std.proofs.Common.{◌≡◌, ◌∙◌, List, Result, Ok, Err, IfOk, OnOk, sym, subst}
+use Rattle.std.specs.Prelude.{Bool, true, false}
 use Rattle.std.proofs.lemmas.Bool.{false≢true}
 use Rattle.slotted_theory.specs.Derives.{Equal}
 use Rattle.slotted_theory.specs.Nameless.{DTerm, nameless}
@@ -10,7 +10,7 @@ use Rattle.slotted_model.specs.Classes.{term_of}
 use Rattle.slotted_operations.specs.Graph.{Graph, IsFullId}
 use Rattle.slotted_operations.specs.Image.{Image, asserted_in}
 use Rattle.slotted_operations.specs.ValidIds.{SaysFillingsEqual}
-use Rattle.slotted_symmetries.specs.Equality.{EqualUpTo, IsDecidedGraph, IsYesIfDecided}
+use Rattle.slotted_symmetries.specs.Equality.{IsDecidedGraph, IsYesIfDecided}
 use Rattle.slotted_operations.proofs.CallerLemmas.{fills-itself}
 use Rattle.slotted_graph.proofs.Extending.{full-extends}
 use Rattle.slotted_deciding.specs.Asking.{AreDifferent, AreEqual, IsExplained, IsExplainedOf, StandsFor}

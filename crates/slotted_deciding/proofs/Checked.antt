@@ -1,11 +1,11 @@
 -- What a checked step leaves of a graph.
 use Rattle.std.proofs.Common.{◌≡◌, ◌⊎◌, ◌++◌, ◌∙◌, ℕ, List, [], ◌∷◌, ap, inl, inr, refl, subst, sym}
-use Rattle.std.specs.Prelude.{IsTrue, Result, Ok, Err, OnOk, false, filter_map}
+use Rattle.std.specs.Prelude.{IsTrue}
 use Rattle.std.proofs.lemmas.List.{append-nil}
 use Rattle.std.proofs.lemmas.List.Elements.{filter_map-append}
 use Rattle.slotted_theory.specs.Nameless.{DTerm}
 use Rattle.slotted_model.specs.Applied.{Applied}
-use Rattle.slotted_model.specs.ProofList.{ProofEntry, Step, asserted, congruent, explicit, if_explicit, reflexive, symmetric, term_pair, transitive}
+use Rattle.slotted_model.specs.ProofList.{ProofEntry, Step, asserted, congruent, explicit, reflexive, symmetric, transitive}
 use Rattle.slotted_model.proofs.Represented.Growing.{Extends-same}
 use Rattle.slotted_proofs.specs.Entries.{Proven, entry_of}
 use Rattle.slotted_proofs.specs.declared.equation.Equation.{Equation as Sides}

@@ -56,6 +56,9 @@ takes-then f g h d e = record {
   names = e.names ∙ d.names;
 }
 
+pub takes-itself : (g : Graph) → OnlyTakesSlots g g
+takes-itself g = record { reads = record { image = refl; filed = refl; part = refl; failed = refl; more = λ s k. k }; names = refl }
+
 -- a class stays settled where only slots are taken
 pub class-later : (g h : Graph) (i : ℕ) → h.image ≡ g.image → h.filed ≡ g.filed → ClassIsSettled g i → ClassIsSettled h i
 class-later g h i image filed c = record {

@@ -4,7 +4,7 @@ use Rattle.std.specs.Prelude.{◌⊎◌, ◌↔◌, Bool, IsErr, IsOk, IsTrue}
 use Rattle.std.proofs.lemmas.Bool.{false≢true}
 use Rattle.slotted_slots.specs.declared.error.Error.{Error}
 use Rattle.slotted_slots.specs.declared.error.Error.TheVariants.{Failed}
-use Rattle.slotted_slots.specs.Error.{IsShortage, number_of}
+use Rattle.slotted_slots.specs.Error.{number_of}
 use Rattle.slotted_operations.specs.Graph.{Graph}
 use Rattle.slotted_deciding.specs.Steps.{CanRefuse, GoesTo}
 

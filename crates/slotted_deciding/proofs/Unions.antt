@@ -5,12 +5,11 @@ use Rattle.slotted_slots.specs.declared.types.AppliedId.{AppliedId}
 use Rattle.slotted_slots.specs.Table.{KnowsMore}
 use Rattle.slotted_model.specs.Growth.{Extends}
 use Rattle.slotted_model.specs.Applied.{Applied, values}
-use Rattle.slotted_model.specs.Classes.{IsFull}
 use Rattle.slotted_model.specs.ProofList.{equation_of}
 use Rattle.slotted_model.proofs.Represented.Fillings.{fills-itself}
 use Rattle.slotted_proofs.specs.Equations.{to_applied}
 use Rattle.slotted_operations.specs.Graph.{Graph, IsFullId, RecordsUnion}
-use Rattle.slotted_operations.specs.Image.{AddsClasses, FillApart, IsUnion, StandsIn, asserted_in}
+use Rattle.slotted_operations.specs.Image.{AddsClasses, FillApart, IsUnion, StandsIn}
 use Rattle.slotted_graph.specs.States.{IsGraph}
 use Rattle.slotted_graph.proofs.Extending.{extends-added, extends-united}
 use Rattle.slotted_deciding.specs.Steps.{GoesTo}

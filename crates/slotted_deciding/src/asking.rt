@@ -43,7 +43,7 @@ pub enum Explained {
     Undecided,
 }
 
-// Decides a graph that has not failed, and returns whether two ids are equal.
+// Returns whether two ids are equal. The graph has not failed, and is decided unless the ids are found equal as it is.
 fn judge<L: Language, N: Analysis<L>>(
     alloc: Global,
     graph: &mut EGraph<L, N>,
@@ -58,6 +58,9 @@ fn judge<L: Language, N: Analysis<L>>(
     ensures goes { OnOk result (LeadsTo N.codes N.meaning graph.old graph.new) }
     ensures err { IfErr result CanRefuse }
 {
+    if is_equal_up_to_symmetries(alloc, graph, a, b)? {
+        return Ok(Verdict::Yes);
+    }
     let is_decided = decide(alloc, graph, limit)?;
     if is_equal_up_to_symmetries(alloc, graph, a, b)? {
         return Ok(Verdict::Yes);
@@ -68,7 +71,7 @@ fn judge<L: Language, N: Analysis<L>>(
     Ok(Verdict::Open)
 }
 
-/// Decides a graph, and returns whether two ids are equal by what was asserted.
+/// Returns whether two ids are equal by what was asserted. Decides the graph first, unless they are found equal as it is.
 ///
 /// At most `limit` e-nodes are added. The answer is `Open` only if these were too few.
 pub fn decided_eq<L: Language, N: Analysis<L>>(
@@ -149,7 +152,7 @@ fn prove_both<L: Language, N: Analysis<L>>(
     }
 }
 
-// Decides the graph, and returns the proof that two ids are equal, if they are.
+// Returns the proof that two ids are equal, if they are, and decides the graph first if need be.
 fn explain_both<L: Language, N: Analysis<L>>(
     alloc: Global,
     graph: &mut EGraph<L, N>,
@@ -189,7 +192,8 @@ fn explain_terms<L: Language, N: Analysis<L>>(
     explain_both(alloc, graph, &both, limit)
 }
 
-/// Adds two terms, decides the graph, and returns the proof that the terms are equal, if they are.
+/// Adds two terms, and returns the proof that the terms are equal, if they are. Decides the graph first, unless they are
+/// found equal as it is.
 ///
 /// At most `limit` e-nodes are added beside those of the terms. The answer is `Undecided` only if these were too few. Classes
 /// are not modified: the calls of a graph whose analysis modifies do so.

@@ -6,29 +6,30 @@ ghost use Rattle.slotted_graph.specs.Analysed.{LowersData};
 ghost use Rattle.slotted_deciding.specs.Steps.{CanRefuse, GoesTo, LeadsTo};
 
 use crate::failing::failing;
-use crate::settling::{Missing, first_missing};
-use crate::uniting::unite_missing;
+use crate::settling::{Missing, all_missing, missing_by_generators};
+use crate::uniting::unite_all;
 use slotted_analyses::Analysis;
 use slotted_graph::EGraph;
 use slotted_languages::Language;
 use slotted_slots::Error;
 use std::alloc::Global;
 
-// Returns what the graph lacks, beginning with this class and going round.
+// Returns what the graph lacks. The classes from this one on are looked at first, by the generators of the groups alone.
 fn any_missing<L: Language, N: Analysis<L>>(
     alloc: Global,
     graph: &mut EGraph<L, N>,
     first: usize,
-) -> Result<Option<Missing<L>>, Error>
+) -> Result<Vec<Missing<L>>, Error>
     requires graph { IsGraph graph.old }
-    ensures none { IfOk result (λ o. IsNone o → IsDecidedGraph graph.new) }
+    ensures none { IfOk result (λ v. v.items ≡ [] → IsDecidedGraph graph.new) }
     ensures goes { OnOk result (LeadsTo N.codes N.meaning graph.old graph.new) }
     ensures err { IfErr result CanRefuse }
 {
-    if let Some(missing) = first_missing(alloc, graph, first)? {
-        return Ok(Some(missing));
+    let missing = missing_by_generators(alloc, graph, first)?;
+    if !missing.is_empty() {
+        return Ok(missing);
     }
-    first_missing(alloc, graph, 0)
+    all_missing(alloc, graph)
 }
 
 // Adds and unites what is missing, until nothing is, or `limit` e-nodes were united. Returns whether nothing is.
@@ -42,15 +43,20 @@ fn settle<L: Language, N: Analysis<L>>(
     ensures goes { OnOk result (LeadsTo N.codes N.meaning graph.old graph.new) }
     ensures err { IfErr result CanRefuse }
 {
-    let mut first = 0;
+    let mut first = graph.progress().number_of_classes;
+    let mut left = limit;
     for _ in 0..limit {
-        let Some(missing) = any_missing(alloc, graph, first)? else {
+        let missing = any_missing(alloc, graph, first)?;
+        if missing.is_empty() {
             return Ok(true);
-        };
-        first = missing.id.id.0;
-        unite_missing(alloc, graph, &missing)?;
+        }
+        if left == 0 {
+            return Ok(false);
+        }
+        first = graph.progress().number_of_classes;
+        left = unite_all(alloc, graph, &missing, left)?;
     }
-    Ok(any_missing(alloc, graph, 0)?.is_none())
+    Ok(any_missing(alloc, graph, first)?.is_empty())
 }
 
 /// Decides the symmetries of a graph: adds each e-node that it lacks, and unites it, until none is missing or `limit`

@@ -1,12 +1,13 @@
 //! A variant that a graph lacks, added and united by a checked step.
 ghost use Rattle.std.specs.Prelude.{◌≡◌, ◌⊎◌, ◌<◌, length, IfErr, IfOk, IsTrue, OnOk};
+ghost use Rattle.slotted_slots.specs.Error.{IsOutOfMemory};
 ghost use Rattle.slotted_model.specs.ProofList.{equation_of};
 ghost use Rattle.slotted_proofs.specs.Equations.{to_applied};
 ghost use Rattle.slotted_operations.specs.Explaining.{StandsAt};
 ghost use Rattle.slotted_graph.specs.States.{IsGraph};
 ghost use Rattle.slotted_deciding.specs.Steps.{CanRefuse, LeadsTo};
 
-use crate::settling::Missing;
+use crate::settling::{Missing, Turn, Variant};
 use crate::stepping::{checked, explained, step_by};
 use slotted_alike::alike::child_equations;
 use slotted_analyses::Analysis;
@@ -14,13 +15,14 @@ use slotted_graph::EGraph;
 use slotted_languages::Language;
 use slotted_proofs::{CongruenceProof, Equation, ProvenEq};
 use slotted_slots::{AppliedId, Error};
+use slotted_symmetries::is_equal_up_to_symmetries;
 use std::alloc::Global;
 
 // Returns the proof of the equation of a child: by the symmetry if the child is twisted.
 fn part_of<L: Language, N: Analysis<L>>(
     alloc: Global,
     graph: &mut EGraph<L, N>,
-    missing: &Missing<L>,
+    turn: Turn,
     child: usize,
     equation: &Equation,
 ) -> Result<ProvenEq, Error>
@@ -28,18 +30,17 @@ fn part_of<L: Language, N: Analysis<L>>(
     ensures goes { OnOk result (LeadsTo N.codes N.meaning graph.old graph.new) }
     ensures err { IfErr result CanRefuse }
 {
-    let variant = &missing.variant;
-    if child != variant.child {
+    if child != turn.child {
         return explained(graph, &equation.l, &equation.r);
     }
-    step_by(alloc, graph, variant.symmetry, !variant.forwards, equation)
+    step_by(alloc, graph, turn.symmetry, !turn.forwards, equation)
 }
 
 // Returns the proofs of these equations.
 fn parts_of<L: Language, N: Analysis<L>>(
     alloc: Global,
     graph: &mut EGraph<L, N>,
-    missing: &Missing<L>,
+    turn: Turn,
     equations: &[Equation],
 ) -> Result<Vec<ProvenEq>, Error>
     requires graph { IsGraph graph.old }
@@ -48,7 +49,7 @@ fn parts_of<L: Language, N: Analysis<L>>(
 {
     let mut parts = Vec::new(alloc);
     for k in 0..equations.len() {
-        parts.push(part_of(alloc, graph, missing, k, &equations[k])?)?;
+        parts.push(part_of(alloc, graph, turn, k, &equations[k])?)?;
     }
     Ok(parts)
 }
@@ -57,7 +58,8 @@ fn parts_of<L: Language, N: Analysis<L>>(
 fn prove_variant<L: Language, N: Analysis<L>>(
     alloc: Global,
     graph: &mut EGraph<L, N>,
-    missing: &Missing<L>,
+    node: &L,
+    turn: Turn,
     equation: &Equation,
 ) -> Result<ProvenEq, Error>
     requires graph { IsGraph graph.old }
@@ -69,11 +71,11 @@ fn prove_variant<L: Language, N: Analysis<L>>(
     if !graph.is_full(&equation.l) {
         return Err(Error::BadStep);
     }
-    let node = graph.fresh_node(&equation.l)?;
-    let Some(equations) = child_equations(alloc, &node, &missing.node)? else {
+    let variant = graph.fresh_node(&equation.l)?;
+    let Some(equations) = child_equations(alloc, &variant, node)? else {
         return Err(Error::BadStep);
     };
-    let parts = parts_of(alloc, graph, missing, &equations)?;
+    let parts = parts_of(alloc, graph, turn, &equations)?;
     checked(graph, &CongruenceProof(parts), equation)
 }
 
@@ -100,27 +102,107 @@ fn unite_proved<L: Language, N: Analysis<L>>(
     Ok(())
 }
 
-/// Adds the variant that a graph lacks, and unites its id with the id that lacks it. Nothing is asserted.
-///
-/// The equation of the two ids is proved first, by a congruent step over the proof of the symmetry.
-pub fn unite_missing<L: Language, N: Analysis<L>>(
+// Adds a variant that a graph lacks, and unites its id with the id that lacks it. Nothing is asserted.
+//
+// The equation of the two ids is proved first, by a congruent step over the proof of the symmetry.
+fn unite_variant<L: Language, N: Analysis<L>>(
     alloc: Global,
     graph: &mut EGraph<L, N>,
     missing: &Missing<L>,
+    variant: &Variant<L>,
 ) -> Result<(), Error>
     requires graph { IsGraph graph.old }
     ensures goes { OnOk result (LeadsTo N.codes N.meaning graph.old graph.new) }
     ensures err { IfErr result CanRefuse }
 {
-    if !graph.is_valid_node(&missing.variant.node) {
+    if !graph.is_valid_node(&variant.node) {
         return Err(Error::BadStep);
     }
-    let l = graph.add_syn_quietly(&missing.variant.node)?;
+    let l = graph.add_syn_quietly(&variant.node)?;
     let _ = graph.is_failed();
     let equation = Equation {
         l,
         r: missing.id.copy(alloc)?,
     };
-    let proof = prove_variant(alloc, graph, missing, &equation)?;
+    let proof = prove_variant(alloc, graph, &missing.node, variant.turn, &equation)?;
     unite_proved(graph, &equation, proof)
+}
+
+// Returns whether a graph that lacked a variant of the e-node of an id lacks it still.
+fn is_still_missing<L: Language, N: Analysis<L>>(
+    alloc: Global,
+    graph: &EGraph<L, N>,
+    id: &AppliedId,
+    variant: &L,
+) -> Result<bool, Error>
+    requires { IsGraph graph.now }
+    ensures err { IfErr result IsOutOfMemory }
+{
+    if !graph.is_valid(id) || !graph.is_valid_node(variant) {
+        return Ok(true);
+    }
+    match graph.lookup(variant)? {
+        Some(found) => Ok(!is_equal_up_to_symmetries(alloc, graph, &found, id)?),
+        None => Ok(true),
+    }
+}
+
+// Unites a variant that a graph lacked, if it lacks the variant still and the limit is not met. Returns what is left of
+// the limit.
+fn unite_within<L: Language, N: Analysis<L>>(
+    alloc: Global,
+    graph: &mut EGraph<L, N>,
+    missing: &Missing<L>,
+    variant: &Variant<L>,
+    limit: usize,
+) -> Result<usize, Error>
+    requires graph { IsGraph graph.old }
+    ensures goes { OnOk result (LeadsTo N.codes N.meaning graph.old graph.new) }
+    ensures err { IfErr result CanRefuse }
+{
+    if limit == 0 {
+        return Ok(limit);
+    }
+    if !is_still_missing(alloc, graph, &missing.id, &variant.node)? {
+        return Ok(limit);
+    }
+    unite_variant(alloc, graph, missing, variant)?;
+    Ok(limit - 1)
+}
+
+// Unites the variants of an id that a graph lacked, but at most `limit`. Returns what is left of the limit.
+fn unite_variants<L: Language, N: Analysis<L>>(
+    alloc: Global,
+    graph: &mut EGraph<L, N>,
+    missing: &Missing<L>,
+    limit: usize,
+) -> Result<usize, Error>
+    requires graph { IsGraph graph.old }
+    ensures goes { OnOk result (LeadsTo N.codes N.meaning graph.old graph.new) }
+    ensures err { IfErr result CanRefuse }
+{
+    let mut left = limit;
+    for i in 0..missing.variants.len() {
+        left = unite_within(alloc, graph, missing, &missing.variants[i], left)?;
+    }
+    Ok(left)
+}
+
+/// Adds the variants that a graph lacked, but at most `limit`, and unites the id of each with the id that lacked it.
+/// Nothing is asserted. Returns what is left of the limit.
+pub fn unite_all<L: Language, N: Analysis<L>>(
+    alloc: Global,
+    graph: &mut EGraph<L, N>,
+    missing: &[Missing<L>],
+    limit: usize,
+) -> Result<usize, Error>
+    requires graph { IsGraph graph.old }
+    ensures goes { OnOk result (LeadsTo N.codes N.meaning graph.old graph.new) }
+    ensures err { IfErr result CanRefuse }
+{
+    let mut left = limit;
+    for i in 0..missing.len() {
+        left = unite_variants(alloc, graph, &missing[i], left)?;
+    }
+    Ok(left)
 }

@@ -3,7 +3,7 @@ use Rattle.std.specs.Prelude.{IsTrue}
 use Rattle.slotted_graph.proofs.Insides.{given}
 use Rattle.slotted_symmetries.specs.Equality.{IsDecidedGraph}
 use Rattle.slotted_deciding.proofs.NoSymmetry.{decided-without, none-listed}
-use Rattle.slotted_deciding.proofs.Refusals.{left-failed, left-fails, left-goes, left-holds, left-ok, left-only}
+use Rattle.slotted_deciding.proofs.Refusals.{left-fails, left-goes, left-holds, left-ok}
 use Rattle.slotted_graph.specs.Analysed.{LowersData}
 use Rattle.slotted_graph.proofs.Saying.{lowers-itself}
 use Rattle.slotted_deciding.proofs.Growing.{leads-goes, on_ok_by}

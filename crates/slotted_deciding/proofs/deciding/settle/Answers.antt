@@ -1,16 +1,32 @@
+use Rattle.std.proofs.Common.{◌≡◌, ◌∙◌, ap, arith, length, sym}
+use Rattle.std.specs.Prelude.{nat_eq, vec_len}
 use Rattle.slotted_deciding.proofs.Growing.{leads-itself, leads-then}
+use Rattle.slotted_deciding.proofs.Twisting.{no-items}
 use Rattle.slotted_deciding.proofs.deciding.settle.Goals as goal
 
-pub returns-in_default-clause-goes : goal.returns-in_default-clause-goes
-returns-in_default-clause-goes g c = leads-then g.N.Analysis.codes g.N.Analysis.meaning g.met.N.Analysis.is_merge c.args.graph.now c.loop.graph c.any_missing.new.graph c.loop.invariant c.in_ok-missing.ensures.goes
+pub returns-then-is_empty-clause-decided : goal.returns-then-is_empty-clause-decided
+returns-then-is_empty-clause-decided g c said =
+    let count : vec_len c.in_ok-missing.missing ≡ length c.in_ok-missing.missing.items = omega arith in
+    c.in_ok-missing.ensures.none (no-items c.in_ok-missing.missing.items (ap (λ n. nat_eq n 0) (sym count) ∙ (sym c.is_empty.ensures ∙ c.if-is_empty.true)))
+
+pub returns-then-is_empty-clause-goes : goal.returns-then-is_empty-clause-goes
+returns-then-is_empty-clause-goes g c = leads-then g.N.Analysis.codes g.N.Analysis.meaning g.met.N.Analysis.is_merge c.args.graph.now c.loop.graph c.any_missing.new.graph c.loop.invariant c.in_ok-missing.ensures.goes
+
+pub returns-then-left-eq0-clause-goes : goal.returns-then-left-eq0-clause-goes
+returns-then-left-eq0-clause-goes g c = leads-then g.N.Analysis.codes g.N.Analysis.meaning g.met.N.Analysis.is_merge c.args.graph.now c.loop.graph c.any_missing.new.graph c.loop.invariant c.in_ok-missing.ensures.goes
 
 pub loop-preserved : goal.loop-preserved
 loop-preserved g c =
     let there = leads-then g.N.Analysis.codes g.N.Analysis.meaning g.met.N.Analysis.is_merge c.args.graph.now c.loop.graph c.any_missing.new.graph c.loop.invariant c.in_ok-missing.ensures.goes in
-    leads-then g.N.Analysis.codes g.N.Analysis.meaning g.met.N.Analysis.is_merge c.args.graph.now c.any_missing.new.graph c.unite_missing.new.graph there c.in_ok-unite_missing.ensures.goes
+    leads-then g.N.Analysis.codes g.N.Analysis.meaning g.met.N.Analysis.is_merge c.args.graph.now c.any_missing.new.graph c.unite_all.new.graph there c.in_ok-left.ensures.goes
 
 pub returns-clause-goes : goal.returns-clause-goes
 returns-clause-goes g c = leads-then g.N.Analysis.codes g.N.Analysis.meaning g.met.N.Analysis.is_merge c.args.graph.now c.loop.graph c.any_missing-2.new.graph c.loop.invariant c.in_ok-any_missing.ensures.goes
+
+pub returns-clause-decided : goal.returns-clause-decided
+returns-clause-decided g c said =
+    let count : vec_len c.in_ok-any_missing.field-0 ≡ length c.in_ok-any_missing.field-0.items = omega arith in
+    c.in_ok-any_missing.ensures.none (no-items c.in_ok-any_missing.field-0.items (ap (λ n. nat_eq n 0) (sym count) ∙ (sym c.is_empty-2.ensures ∙ said)))
 
 pub loop-init : goal.loop-init
 loop-init g c = leads-itself g.N.Analysis.codes g.N.Analysis.meaning g.met.N.Analysis.is_merge c.args.graph.now c.requires.graph

@@ -2,7 +2,7 @@ use Rattle.std.proofs.lemmas.Bool.{false≢true}
 use Rattle.slotted_deciding.proofs.Growing.{leads-then, leads-with, on_ok_by}
 use Rattle.slotted_deciding.proofs.Unions.{goes-added, good-graph}
 use Rattle.slotted_graph.proofs.Saying.{carried-lowers}
-use Rattle.slotted_deciding.proofs.uniting.unite_missing.Goals as goal
+use Rattle.slotted_deciding.proofs.uniting.unite_variant.Goals as goal
 
 pub prove_variant-requires : goal.prove_variant-requires
 prove_variant-requires g c =
