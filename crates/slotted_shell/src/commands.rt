@@ -122,7 +122,7 @@ fn explain(shell: &mut Shell, text: &str) -> Result<String, Trouble> {
     }
 }
 
-// Answers by a proof as a chain of terms. The graph is decided first, as for `explain`. Terms that are equal by a symmetry
+// Answers by a proof as a chain of terms. The graph is decided if need be, as for `explain`. Terms that are equal by a symmetry
 // alone have no chain, and are answered as `explain` does.
 fn chain(shell: &mut Shell, text: &str) -> Result<String, Trouble> {
     let alloc = shell.alloc;

@@ -170,8 +170,9 @@ impl<L: Language> Workspace<L> {
         Ok(decided(self.alloc, &mut self.graph, limit)?)
     }
 
-    /// Decides the symmetries of the graph, and returns whether two terms are equal by what was asserted. A yes and a no
-    /// are right, without exception. The answer is `Open` only if more than `limit` e-nodes were missing.
+    /// Returns whether two terms are equal by what was asserted. Decides the symmetries of the graph first, unless the
+    /// terms are found equal as it is. A yes and a no are right, without exception. The answer is `Open` only if more
+    /// than `limit` e-nodes were missing.
     pub fn decided_eq(
         &mut self,
         a: Handle,
@@ -382,9 +383,9 @@ impl<L: Printable> Workspace<L> {
         Ok(explanation(self.alloc, &mut self.graph, left, right)?)
     }
 
-    /// Decides the symmetries of the graph, and returns a proof that two terms are equal, if they are: lines that each end
-    /// with a line feed. The last line is the equation of both. The answer is `Undecided` only if more than `limit` e-nodes
-    /// were missing.
+    /// Returns a proof that two terms are equal, if they are: lines that each end with a line feed. The last line is the
+    /// equation of both. Decides the symmetries of the graph first, unless the terms are found equal as it is. The answer
+    /// is `Undecided` only if more than `limit` e-nodes were missing.
     pub fn decided_explain(
         &mut self,
         a: Handle,
