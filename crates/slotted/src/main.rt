@@ -1,6 +1,15 @@
 // The program `slotted`: one line in, one answer out.
 #![tactic(auto)]
 
+#[cfg(test)]
+mod deep;
+#[cfg(test)]
+mod large;
+#[cfg(test)]
+mod lines;
+#[cfg(test)]
+mod streams;
+
 ghost use Rattle.std.specs.Prelude.{◌≡◌, IfOk, IfErr, IfSome, OnSome, OnOk};
 ghost use Rattle.std.specs.Io.KnownBytes.{Appends, IsAtEnd};
 ghost use Rattle.slotted_small.specs.Small.{small_form, small_read};

@@ -10,12 +10,11 @@ use Rattle.slotted_graph.specs.Extension.{ExtendsTo}
 use Rattle.slotted_graph.proofs.Extending.{extends-itself, extends-then}
 use Rattle.slotted_model_rules.specs.Runners.{AppliesRules}
 use Rattle.slotted_rules.specs.Applying.{ThenModifies}
-use Rattle.slotted_rules.specs.Counting.{AppliesRule, SearchesRule}
+use Rattle.slotted_rules.specs.Counting.{AppliesRule, IsTurn, SearchesRule}
 use Rattle.slotted_rules.specs.declared.counting.TurnCounts.{TurnCounts}
 use Rattle.slotted_rules.specs.declared.rewrite.Rewrite.{Rewrite}
 use Rattle.slotted_rules.specs.RuleOrigins.{AreFromRules, ComesFromEdits}
 use Rattle.slotted_rules.proofs.RuleOrigins.{Came, came-wider, counted-rules, edits-wider, step-before, then-came, then-extends}
-use Rattle.slotted_runs.specs.Counted.{IsTurn}
 use Rattle.slotted_deciding.specs.Steps.{GoesTo}
 use Rattle.slotted_deciding.proofs.Assertions.{goes-not-explicit}
 use Rattle.slotted_decided.specs.Turns.{GoesDecided, IsDecidedTurn, is_decided, turn_then}

@@ -24,7 +24,7 @@ use Rattle.slotted_rules.specs.Rewriting.{IsSearched}
 use Rattle.slotted_rules.specs.Applying.{HasProgressed}
 use Rattle.slotted_rules.specs.declared.counting.TurnCounts.{TurnCounts}
 use Rattle.slotted_rules.specs.declared.rewrite.Rewrite.{Rewrite}
-use Rattle.slotted_runs.specs.Counted.{IsTurn}
+use Rattle.slotted_rules.specs.Counting.{IsTurn}
 use Rattle.slotted_deciding.specs.Steps.{GoesTo}
 use Rattle.slotted_decided.specs.declared.running.DecidedLimits.{DecidedLimits}
 use Rattle.slotted_decided.specs.declared.running.DecidedRun.{DecidedRun}

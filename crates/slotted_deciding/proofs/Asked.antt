@@ -53,7 +53,15 @@ explained-terms h a b t u one two (Proved p) is = record {
 }
 explained-terms h a b t u one two Unequal is =
     λ e. is (subst (λ (d : DTerm). Equal (asserted_in h.image) d (term_of h.image.canonical b)) (sym one.term) (subst (Equal (asserted_in h.image) (nameless t)) (sym two.term) e))
-explained-terms h a b t u one two Undecided is = tt
+explained-terms h a b t u one two Undecided is = record {
+  left = a;
+  right = b;
+  left_full = one.full.full;
+  right_full = two.full.full;
+  left_term = one.term;
+  right_term = two.term;
+  apart = is;
+}
 
 -- of an answer P holds, and K in every case, of which Q follows
 pub ok-with : {T E : Type 0} (r : Result T E) (K : Type 0) (P Q : T → Type 0) → ((x : T) → K → P x → Q x) → OnOk r K → IfOk r P → IfOk r Q

@@ -6,13 +6,14 @@
 --     IsProvedOf g a b p      the entry p says that two ids are equal, and they are by what is asserted
 --     IsExplainedOf g a b e   the answer to why two ids are equal
 --     IsProved g t u p        the entry p says that the ids of two terms are equal
+--     AreApart g t u          the ids of two terms are not equal up to symmetries
 --     IsExplained g t u e     the answer to why two terms are equal: a yes has a proof, and a no is right
-use Rattle.std.specs.Prelude.{◌≡◌, ⊤, ℕ}
+use Rattle.std.specs.Prelude.{◌≡◌, ℕ}
 use Rattle.slotted_theory.specs.Derives.{Equal}
 use Rattle.slotted_theory.specs.Nameless.{nameless}
 use Rattle.slotted_theory.specs.Term.{Term}
 use Rattle.slotted_model.specs.Applied.{Applied}
-use Rattle.slotted_model.specs.Classes.{term_of}
+use Rattle.slotted_model.specs.Classes.{term_of, IsFull}
 use Rattle.slotted_model.specs.ProofList.{equation_of}
 use Rattle.slotted_operations.specs.Explaining.{StandsAt}
 use Rattle.slotted_operations.specs.Graph.{Graph, IsFullId}
@@ -52,7 +53,7 @@ pub record IsProvedOf (g : Image) (a b : Applied) (p : ℕ) : Type 0 where
 abbrev pub IsExplainedOf : Image → Applied → Applied → Explained → Type 0
 IsExplainedOf g a b (Proved p) = IsProvedOf g a b p
 IsExplainedOf g a b Unequal = ¬ Equal (asserted_in g) (term_of g.canonical a) (term_of g.canonical b)
-IsExplainedOf g a b Undecided = ⊤
+IsExplainedOf g a b Undecided = ¬ EqualUpTo g a b
 
 -- the entry p says that two ids are equal, which stand for the terms
 pub record IsProved (g : Image) (t u : Term) (p : ℕ) : Type 0 where
@@ -63,7 +64,17 @@ pub record IsProved (g : Image) (t u : Term) (p : ℕ) : Type 0 where
   pub stands : StandsAt g p (equation_of left right)
   pub equal : Equal (asserted_in g) (nameless t) (nameless u)
 
+-- full ids that stand for the terms are not equal up to symmetries
+pub record AreApart (g : Image) (t u : Term) : Type 0 where
+  pub left : Applied
+  pub right : Applied
+  pub left_full : IsFull g.canonical left
+  pub right_full : IsFull g.canonical right
+  pub left_term : term_of g.canonical left ≡ nameless t
+  pub right_term : term_of g.canonical right ≡ nameless u
+  pub apart : ¬ EqualUpTo g left right
+
 abbrev pub IsExplained : Image → Term → Term → Explained → Type 0
 IsExplained g t u (Proved p) = IsProved g t u p
 IsExplained g t u Unequal = ¬ Equal (asserted_in g) (nameless t) (nameless u)
-IsExplained g t u Undecided = ⊤
+IsExplained g t u Undecided = AreApart g t u

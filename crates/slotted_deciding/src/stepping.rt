@@ -86,6 +86,24 @@ fn renaming(alloc: Global, from: &SlotMap, to: &SlotMap) -> Result<SlotMap, Erro
     Ok(names)
 }
 
+// Returns the renaming after which the one id finds what the other finds.
+fn names_between<L: Language, N: Analysis<L>>(
+    alloc: Global,
+    graph: &EGraph<L, N>,
+    from: &AppliedId,
+    to: &AppliedId,
+) -> Result<SlotMap, Error>
+    requires graph { IsGraph graph.now }
+    ensures err { IfErr result CanRefuse }
+{
+    if !graph.is_valid(from) || !graph.is_valid(to) {
+        return Err(Error::BadStep);
+    }
+    let from = graph.find_applied_id(from)?;
+    let to = graph.find_applied_id(to)?;
+    renaming(alloc, &from.m, &to.m)
+}
+
 // Returns the renaming after which the left side of an equation finds what an id finds. Each other name of the two
 // sides goes to a fresh slot.
 fn names_for<L: Language, N: Analysis<L>>(
@@ -98,15 +116,7 @@ fn names_for<L: Language, N: Analysis<L>>(
     ensures goes { OnOk result (LeadsTo N.codes N.meaning graph.old graph.new) }
     ensures err { IfErr result CanRefuse }
 {
-    if !graph.is_valid(&sides.l) {
-        return Err(Error::BadStep);
-    }
-    if !graph.is_valid(id) {
-        return Err(Error::BadStep);
-    }
-    let from = graph.find_applied_id(&sides.l)?;
-    let to = graph.find_applied_id(id)?;
-    let mut names = renaming(alloc, &from.m, &to.m)?;
+    let mut names = names_between(alloc, graph, &sides.l, id)?;
     add_fresh(graph, &mut names, &sides.l.m)?;
     add_fresh(graph, &mut names, &sides.r.m)?;
     Ok(names)
@@ -172,6 +182,21 @@ fn proof_of<L: Language, N: Analysis<L>>(
     checked(graph, &SymmetryProof(proof), sides)
 }
 
+/// Returns the equation of two ids.
+pub(crate) fn equation_between(
+    alloc: Global,
+    l: &AppliedId,
+    r: &AppliedId,
+) -> Result<Equation, Error>
+    ensures left { IfOk result (λ e. e.l ≡ l.now) }
+    ensures right { IfOk result (λ e. e.r ≡ r.now) }
+    ensures err { IfErr result CanRefuse }
+{
+    let l = l.copy(alloc)?;
+    let r = r.copy(alloc)?;
+    Ok(Equation { l, r })
+}
+
 // Returns the proof of an equation by three proofs: its left side equals the left side of the middle equation, the
 // middle one holds, and its right side equals the right side of the equation.
 pub(crate) fn joined<L: Language, N: Analysis<L>>(
@@ -187,12 +212,46 @@ pub(crate) fn joined<L: Language, N: Analysis<L>>(
         (equation_of (to_applied equation.now.l) (to_applied equation.now.r))) }
     ensures err { IfErr result CanRefuse }
 {
-    let half = Equation {
-        l: equation.l.copy(alloc)?,
-        r: middle.r.copy(alloc)?,
-    };
+    let half = equation_between(alloc, &equation.l, &middle.r)?;
     let first = checked(graph, &TransitivityProof(proofs.0, proofs.1), &half)?;
     checked(graph, &TransitivityProof(first, proofs.2), equation)
+}
+
+// Returns the proof of an equation by the proof of another one, whose sides find what its sides find.
+pub(crate) fn by_middle<L: Language, N: Analysis<L>>(
+    alloc: Global,
+    graph: &mut EGraph<L, N>,
+    equation: &Equation,
+    middle: &Equation,
+    proof: ProvenEq,
+) -> Result<ProvenEq, Error>
+    requires graph { IsGraph graph.old }
+    ensures goes { OnOk result (LeadsTo N.codes N.meaning graph.old graph.new) }
+    ensures stands { IfOk result (λ p. StandsAt graph.new.image p
+        (equation_of (to_applied equation.now.l) (to_applied equation.now.r))) }
+    ensures err { IfErr result CanRefuse }
+{
+    let there = explained(graph, &equation.l, &middle.l)?;
+    let back = explained(graph, &middle.r, &equation.r)?;
+    joined(alloc, graph, equation, middle, (there, proof, back))
+}
+
+// Returns the equation by which a symmetry was proved, or this turned round, under names by which its left side finds
+// what an id finds.
+fn sides_at<L: Language, N: Analysis<L>>(
+    alloc: Global,
+    graph: &mut EGraph<L, N>,
+    symmetry: usize,
+    forwards: bool,
+    id: &AppliedId,
+) -> Result<Equation, Error>
+    requires graph { IsGraph graph.old }
+    ensures goes { OnOk result (LeadsTo N.codes N.meaning graph.old graph.new) }
+    ensures err { IfErr result CanRefuse }
+{
+    let sides = sides_of(alloc, graph, symmetry, forwards)?;
+    let names = names_for(alloc, graph, &sides, id)?;
+    renamed(alloc, &sides, &names)
 }
 
 /// Returns the proof of an equation by a symmetry: the sides of the equation find what those of the symmetry find, under
@@ -210,11 +269,7 @@ pub(crate) fn step_by<L: Language, N: Analysis<L>>(
         (equation_of (to_applied equation.now.l) (to_applied equation.now.r))) }
     ensures err { IfErr result CanRefuse }
 {
-    let sides = sides_of(alloc, graph, symmetry, forwards)?;
-    let names = names_for(alloc, graph, &sides, &equation.l)?;
-    let middle = renamed(alloc, &sides, &names)?;
-    let there = explained(graph, &equation.l, &middle.l)?;
-    let back = explained(graph, &middle.r, &equation.r)?;
+    let middle = sides_at(alloc, graph, symmetry, forwards, &equation.l)?;
     let proof = proof_of(graph, symmetry, forwards, &middle)?;
-    joined(alloc, graph, equation, &middle, (there, proof, back))
+    by_middle(alloc, graph, equation, &middle, proof)
 }

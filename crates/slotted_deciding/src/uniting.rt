@@ -1,10 +1,11 @@
 //! A variant that a graph lacks, added and united by a checked step.
-ghost use Rattle.std.specs.Prelude.{◌≡◌, ◌⊎◌, ◌<◌, length, IfErr, IfOk, IsTrue, OnOk};
+ghost use Rattle.std.specs.Prelude.{◌≡◌, ◌⊎◌, ◌<◌, ◌+◌, length, IfErr, IfOk, IsTrue, OnOk};
 ghost use Rattle.slotted_slots.specs.Error.{IsOutOfMemory};
 ghost use Rattle.slotted_model.specs.ProofList.{equation_of};
 ghost use Rattle.slotted_proofs.specs.Equations.{to_applied};
 ghost use Rattle.slotted_operations.specs.Explaining.{StandsAt};
 ghost use Rattle.slotted_graph.specs.States.{IsGraph};
+ghost use Rattle.slotted_deciding.specs.Settling.{IsLookedUpAs};
 ghost use Rattle.slotted_deciding.specs.Steps.{CanRefuse, LeadsTo};
 
 use crate::settling::{Missing, Turn, Variant};
@@ -136,6 +137,7 @@ fn is_still_missing<L: Language, N: Analysis<L>>(
     variant: &L,
 ) -> Result<bool, Error>
     requires { IsGraph graph.now }
+    ensures no { IfOk result (λ y. IsTrue y ⊎ IsLookedUpAs graph.now (to_applied id.now) (L.form variant.now)) }
     ensures err { IfErr result IsOutOfMemory }
 {
     if !graph.is_valid(id) || !graph.is_valid_node(variant) {
@@ -157,6 +159,8 @@ fn unite_within<L: Language, N: Analysis<L>>(
     limit: usize,
 ) -> Result<usize, Error>
     requires graph { IsGraph graph.old }
+    ensures left { IfOk result (λ n. (n + 1 ≡ limit) ⊎ ((n ≡ limit) × (graph.new ≡ graph.old)
+        × ((limit ≡ 0) ⊎ IsLookedUpAs graph.old (to_applied missing.now.id) (L.form variant.now.node)))) }
     ensures goes { OnOk result (LeadsTo N.codes N.meaning graph.old graph.new) }
     ensures err { IfErr result CanRefuse }
 {

@@ -4,7 +4,7 @@ use slotted_explain::EGraph;
 use slotted_extract::{Extractor, ast_size_extract, extract};
 use slotted_languages::Language;
 use slotted_questions::graphs::{parted, put};
-use slotted_slots::{AppliedId, Error};
+use slotted_slots::{AppliedId, Error, SlotTable};
 use slotted_terms::expr::RecExpr;
 use slotted_terms::expr::printing::Printable;
 use slotted_terms::flat::flatten;
@@ -23,13 +23,18 @@ pub fn unite<L: Language>(
     }
 }
 
-// Adds both terms of each part, and unites them. The term of a part that has one is added alone.
+// Adds both terms of a part, and unites them. The term of a part that has one is added alone.
+fn unite_part<L: Language>(graph: &mut EGraph<L>, part: &str) -> Result<bool, Error> {
+    let (left, right) = part.split_once(" == ").unwrap_or((part, part));
+    let l = put(graph, left)?;
+    let r = put(graph, right)?;
+    unite(graph, &l, &r)
+}
+
+// Adds and unites the terms of each part.
 fn unite_each<L: Language>(graph: &mut EGraph<L>, parts: &str) -> Result<(), Error> {
     for part in parts.split_terminator("; ") {
-        let (left, right) = part.split_once(" == ").unwrap_or((part, part));
-        let l = put(graph, left)?;
-        let r = put(graph, right)?;
-        unite(graph, &l, &r)?;
+        unite_part(graph, part)?;
     }
     Ok(())
 }
@@ -91,7 +96,20 @@ fn has_only_nulls<L: Language>(alloc: Global, term: &RecExpr<L>) -> Result<bool,
     Ok(true)
 }
 
-// Returns the text of the extracted term, with `$fk` for its first fresh slot. A term with a child id inside has none.
+// Returns the text of a term, with `$fk` for its first fresh slot. A term with a child id inside has none.
+fn term_shown<L: Printable>(
+    alloc: Global,
+    term: &RecExpr<L>,
+    table: &SlotTable,
+) -> Result<String, Error> {
+    if !has_only_nulls(alloc, term)? {
+        return Err(Error::NotATerm);
+    }
+    let text = term.text(alloc, table)?;
+    with_fresh(alloc, text.as_str())
+}
+
+// Returns the text of the extracted term, as above.
 fn given_text<L: Printable, F: CostFunction<L> + Default>(
     alloc: Global,
     graph: &mut EGraph<L>,
@@ -100,11 +118,7 @@ fn given_text<L: Printable, F: CostFunction<L> + Default>(
     id: &AppliedId,
 ) -> Result<String, Error> {
     let term = given(alloc, graph, extractor, word, id)?;
-    if !has_only_nulls(alloc, &term)? {
-        return Err(Error::NotATerm);
-    }
-    let text = term.text(alloc, graph.table())?;
-    with_fresh(alloc, text.as_str())
+    term_shown(alloc, &term, graph.table())
 }
 
 // Returns the cost of a term, if the term is valid.
@@ -143,6 +157,31 @@ fn written_cost<L: Language, F: CostFunction<L>>(
     term_cost(alloc, graph, costs, &term)
 }
 
+// Returns the cost of the class of what an id is found as.
+fn found_cost<L: Language, F: CostFunction<L>>(
+    graph: &EGraph<L>,
+    extractor: &Extractor<L, F>,
+    id: &AppliedId,
+) -> Result<F::Cost, Error> {
+    let found = found(graph, id)?;
+    extractor.get_best_cost(&found)
+}
+
+// Returns the cost that is asked of an id by a word.
+fn id_cost<L: Language, F: CostFunction<L> + Default>(
+    alloc: Global,
+    graph: &mut EGraph<L>,
+    extractor: &Extractor<L, F>,
+    word: &str,
+    id: &AppliedId,
+) -> Result<F::Cost, Error> {
+    match word {
+        "own cost" => extractor.get_best_cost(id),
+        "found cost" => found_cost(graph, extractor, id),
+        _ => given_cost(alloc, graph, extractor, id),
+    }
+}
+
 // Returns the cost that is asked of a text's term by a word.
 fn cost<L: Language, F: CostFunction<L> + Default>(
     alloc: Global,
@@ -153,10 +192,8 @@ fn cost<L: Language, F: CostFunction<L> + Default>(
 ) -> Result<F::Cost, Error> {
     let id = put(graph, text)?;
     match word {
-        "own cost" => extractor.get_best_cost(&id),
-        "found cost" => extractor.get_best_cost(&found(graph, &id)?),
-        "given cost" => given_cost(alloc, graph, extractor, &id),
-        _ => written_cost(alloc, graph, &extractor.costs, text),
+        "written cost" => written_cost(alloc, graph, &extractor.costs, text),
+        _ => id_cost(alloc, graph, extractor, word, &id),
     }
 }
 

@@ -107,5 +107,7 @@ pub fn fold<K: Clock>(
 ) -> Result<Folded, Error> {
     let runner = Runner::new(alloc, SlotTable::new(alloc), ConstFold, clock)?;
     let mut folder: Folder<K> = runner.with_iter_limit(turn_limit);
-    fold_in(alloc, &mut folder, text)
+    let folded = fold_in(alloc, &mut folder, text);
+    let _ = folder.into_table();
+    folded
 }

@@ -36,7 +36,7 @@ use Rattle.slotted_operations.specs.Explaining.{ProvesIfAlike}
 use Rattle.slotted_operations.specs.Good.{Good, RestsWith, image_of}
 use Rattle.slotted_operations.specs.Graph.{Graph}
 use Rattle.slotted_operations.specs.Image.{Image}
-use Rattle.slotted_writes.proofs.Since.{carried-same}
+use Rattle.slotted_graph.proofs.Since.{carried-same}
 use Rattle.slotted_operations.proofs.Graphs.Images.{class_found-is}
 use Rattle.slotted_operations.specs.Reports.{finds_itself}
 use Rattle.slotted_operations.proofs.Graphs.Reports.{compared-alike, live-is}

@@ -12,6 +12,7 @@ pub mod Matching
 pub mod Finds
 pub mod Insides
 pub mod Analysed
+pub mod Since
 pub mod CountedGraphs
 pub mod KnownPatterns
 pub mod FoundValues

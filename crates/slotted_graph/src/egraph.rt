@@ -28,6 +28,7 @@ ghost use Rattle.slotted_operations.specs.SmallNodes.{IsSmallValidTerm};
 pub mod steps;
 
 use crate::method::SubstMethod;
+use crate::writes::uniting;
 use slotted_analyses::Analysis;
 use slotted_classes::{Store, Symmetry};
 use slotted_data::ClassData;
@@ -40,7 +41,6 @@ use slotted_operations::uniting::open_symmetries;
 use slotted_proofs::ProvenEq;
 use slotted_slots::{AppliedId, Error, SlotTable};
 use slotted_terms::expr::RecExpr;
-use slotted_writes::uniting;
 use std::alloc::Global;
 use std::marker::Model;
 

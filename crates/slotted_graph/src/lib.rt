@@ -13,6 +13,7 @@ pub mod method;
 pub mod modifying;
 pub mod rounds;
 pub mod uniting;
+mod writes;
 
 pub use editing::make_edit;
 pub use egraph::steps::Check;

@@ -153,6 +153,21 @@ fn is_told(alloc: Global, table: &mut SlotTable, row: &str) -> Result<bool, Erro
     Ok(text.as_str().trim() == wanted.trim())
 }
 
+// Asks the table that came out of the graph, unless the graph was refused.
+fn walk_table<'a>(
+    alloc: Global,
+    table: &mut SlotTable,
+    walked: Result<Walked<'a>, Error>,
+    names: &'a str,
+) -> Result<Walked<'a>, Error> {
+    let walked = walked?;
+    if is_told(alloc, table, names)? {
+        Ok(walked)
+    } else {
+        Ok(Walked::Wrong(names))
+    }
+}
+
 /// Asks the rows of a session in a new graph over a table that has read a name, up to the end or to the first write
 /// that is refused. Behind `table ` in the last row, the table that comes out of the graph is asked.
 pub fn walk_session<'a, L: Printable>(
@@ -163,11 +178,7 @@ pub fn walk_session<'a, L: Printable>(
 ) -> Result<Walked<'a>, Error> {
     let (rows, names) = parted(session, "\ntable ");
     let mut graph: EGraph<L> = empty(alloc, name)?;
-    let walked = walk_beside_new(alloc, &mut graph, rows, ended)?;
+    let walked = walk_beside_new(alloc, &mut graph, rows, ended);
     let mut table = graph.into_table();
-    if is_told(alloc, &mut table, names)? {
-        Ok(walked)
-    } else {
-        Ok(Walked::Wrong(names))
-    }
+    walk_table(alloc, &mut table, walked, names)
 }

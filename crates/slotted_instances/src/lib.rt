@@ -19,5 +19,5 @@ pub use instances::pattern_subst;
 pub use looking_up::lookup_rec_expr;
 pub use method::OwnSubst;
 pub use substituting::subst_ids;
-pub use uniting::union_instantiations;
+pub use uniting::{union_instantiations, union_tested};
 pub use with_method::subst_with;

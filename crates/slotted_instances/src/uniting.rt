@@ -75,6 +75,34 @@ fn unite<L: Language, N: Analysis<L>>(
     answer
 }
 
+/// Asserts that instances of both patterns are equal, as `union_instantiations` does, and tests neither pattern.
+///
+/// A caller that unites many instances of the same patterns tests these once: they are whole, and each variable has a
+/// value.
+pub fn union_tested<L: Language, N: Analysis<L>>(
+    alloc: Global,
+    graph: &mut EGraph<L, N>,
+    a: &Pattern<L>,
+    b: &Pattern<L>,
+    subst: &Subst,
+    text: Option<String>,
+) -> Result<bool, Error>
+    requires graph { IsGraph graph.old }
+    requires left { HasKnownNames graph.old.table (tree_of L.form a.now) }
+    requires right { HasKnownNames graph.old.table (tree_of L.form b.now) }
+    requires values { AreValidValues graph.old (values_of subst.now) }
+    requires tested { HavePassed (values_of subst.now) (tree_of L.form a.now) (tree_of L.form b.now) }
+    ensures unites { IfOk result (UnitesInstances graph.old graph.new (values_of subst.now)
+        (tree_of L.form a.now) (tree_of L.form b.now) (text_bytes text)) }
+    ensures extends { IsTrue graph.new.failed ⊎ ExtendsTo graph.old graph.new }
+    ensures carries { IsTrue graph.new.failed ⊎ CarriesAlong N.codes N.meaning graph.old graph.new }
+    ensures fails { IsTrue graph.new.failed ↔ IsErrAnd result IsShortage }
+    ensures only { IfErr result IsShortage }
+{
+    let answer = unite(alloc, graph, a, b, subst, text);
+    failing(graph, answer)
+}
+
 // Unites both instances, if each variable has a value.
 fn test_and_unite<L: Language, N: Analysis<L>>(
     alloc: Global,

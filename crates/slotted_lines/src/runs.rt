@@ -31,5 +31,6 @@ pub(crate) fn run_rules<L: Language>(
     mem::swap(&mut runner.egraph, &mut session.graph);
     let outcome = runner.run(&session.rules);
     mem::swap(&mut runner.egraph, &mut session.graph);
+    let _ = runner.into_table();
     outcome
 }

@@ -30,6 +30,11 @@ impl<L: Language> Session<L> {
         })
     }
 
+    // Drops the session. A function that lets one go by itself drops it on each of its ways out.
+    pub(crate) fn close(self) {
+        let _ = self.graph.into_table();
+    }
+
     /// Returns whether the rules can be handed to runs over the graph. Takes no memory.
     ///
     /// Lines keep this so. If you change the graph or the rules by other means, ask for it again.

@@ -28,7 +28,11 @@ pub fn answer_session<L: Printable, R: BufRead, W: Write>(
     ensures end { OnOk result (OnSome (R.remaining input.old) (IsAtEnd (R.remaining input.new))) }
 {
     match Session::<L>::new(alloc) {
-        Ok(mut session) => answer_each(alloc, &mut session, input, output),
+        Ok(mut session) => {
+            let outcome = answer_each(alloc, &mut session, input, output);
+            session.close();
+            outcome
+        }
         Err(_) => Err(io::Error::from(ErrorKind::OutOfMemory)),
     }
 }

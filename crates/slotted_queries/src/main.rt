@@ -63,7 +63,10 @@ fn answer_line(rt: &HostRuntime, line: &str) -> Result<()> {
     }
     let table = SlotTable::new(rt.alloc());
     let runner = Runner::new(rt.alloc(), table, (), StillClock)?;
-    answer_query(rt, &mut runner.with_hook(EFFORT), line)
+    let mut runner = runner.with_hook(EFFORT);
+    let answered = answer_query(rt, &mut runner, line);
+    let _ = runner.into_table();
+    answered
 }
 
 fn main(rt: HostRuntime) -> Result<()> {

@@ -8,8 +8,10 @@
 --     counts_in ks                         what is told of each rule
 --     CountsRules form holds rules g counts h      all rules are searched, then each is applied, and this is told of them
 --     CountsAndModifies form holds rules after g counts h      so it is of a graph from which `after` leads to h
+--     IsTurn form holds rules after g t h     the rules are applied once, and then `after`, rounds of edits, leads to h; t tells what the rules did, and whether
+--                                             the progress measure changed
 --     RefusesCounted form holds refuses rules g h e    all rules are searched, some are applied, and the apply of the next one is refused and leaves h
-use Rattle.std.specs.Prelude.{◌≡◌, ℕ, List, length, map, Bool, string_bytes}
+use Rattle.std.specs.Prelude.{◌≡◌, ◌↔◌, IsTrue, ℕ, List, length, map, Bool, string_bytes}
 use Rattle.slotted_slots.specs.declared.error.Error.{Error}
 use Rattle.slotted_nodes.specs.Form.{Form}
 use Rattle.slotted_patterns.specs.View.{tree_of}
@@ -17,8 +19,9 @@ use Rattle.slotted_model_rules.specs.Conditions.{Values}
 use Rattle.slotted_model_rules.specs.Runners.{AppliesAll, SearchesAll}
 use Rattle.slotted_operations.specs.Graph.{Graph}
 use Rattle.slotted_rules.specs.declared.counting.RuleCounts.{RuleCounts}
+use Rattle.slotted_rules.specs.declared.counting.TurnCounts.{TurnCounts}
 use Rattle.slotted_rules.specs.declared.rewrite.Rewrite.{Rewrite}
-use Rattle.slotted_rules.specs.Applying.{RefusesRules, ThenModifies}
+use Rattle.slotted_rules.specs.Applying.{HasProgressed, RefusesRules, ThenModifies}
 use Rattle.slotted_rules.specs.Rewriting.{BreaksOff, CanBeApplied, IsRefusedRewrite, IsSearched, LeavesApplied, LeavesUnited}
 
 abbrev pub SearchesRule : {L C : Type 0} → (L → Form) → Rewrite L C → Graph → List Values → Graph → Type 0
@@ -60,3 +63,7 @@ CountsAndModifies form holds rules after g counts h = ThenModifies (λ e f. Coun
 -- no search is refused but over a failed graph, or if memory or slots ran out
 abbrev pub RefusesCounted : {L C : Type 0} → (L → Form) → (C → Values → Graph → Bool → Type 0) → (C → Values → Graph → Error → Type 0) → List (Rewrite L C) → Graph → Graph → Error → Type 0
 RefusesCounted form holds refuses rules g h e = RefusesRules (SearchesRule form) (λ _ _ _ _. ⊥) (AppliesRule form holds) (BreaksRule form holds refuses) rules g h e
+
+pub record IsTurn {L C : Type 0} (form : L → Form) (holds : C → Values → Graph → Bool → Type 0) (rules : List (Rewrite L C)) (after : Graph → Graph → Type 0) (g : Graph) (t : TurnCounts) (h : Graph) : Type 0 where
+  pub counts : CountsAndModifies form holds rules after g t.rules.items h
+  pub changed : IsTrue t.changed ↔ HasProgressed g.image h.image

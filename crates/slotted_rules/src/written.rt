@@ -25,11 +25,11 @@ use crate::rewrite::Rewrite;
 use crate::rule::RewriteT;
 use slotted_analyses::Analysis;
 use slotted_graph::EGraph;
-use slotted_instances::union_instantiations;
+use slotted_instances::union_tested;
 use slotted_languages::Language;
 use slotted_matching::Matches;
 use slotted_rule_patterns::Subst;
-use slotted_rule_patterns::pattern::{first_lacking, has_substitution};
+use slotted_rule_patterns::pattern::{first_lacking, has_substitution, is_whole};
 use slotted_slots::Error;
 use std::alloc::Global;
 
@@ -45,6 +45,7 @@ fn unite<L: Language, N: Analysis<L>, C: Drop>(
     requires rule { CanBeSearched L.form graph.old.table rule.now }
     requires valid { AreValidValues graph.old (values_of subst.now) }
     requires whole { IsSome (pattern_in (tree_of L.form rule.now.left)) }
+    requires made { IsSome (pattern_in (tree_of L.form rule.now.right)) }
     requires values { first_missing (tree_of L.form rule.now.left) (values_of subst.now) ≡ None }
     ensures unites { IfOk result (UnitesInstances graph.old graph.new (values_of subst.now)
         (tree_of L.form rule.now.left) (tree_of L.form rule.now.right) (Some (string_bytes rule.now.name))) }
@@ -53,22 +54,25 @@ fn unite<L: Language, N: Analysis<L>, C: Drop>(
     ensures unchanged { IsErr result → IsTrue graph.new.failed ⊎ (graph.new ≡ graph.old) }
     ensures carries { IsTrue graph.new.failed ⊎ CarriesAlong N.codes N.meaning graph.old graph.new }
     ensures fails { IsTrue graph.new.failed → IsErrAnd result IsShortage }
-    ensures err { IfErr result (λ e. IsShortage e
-        ⊎ (IsNotATerm e × (pattern_in (tree_of L.form rule.now.right) ≡ None))) }
+    ensures err { IfErr result IsShortage }
 {
     let name = String::from_str(alloc, rule.name.as_str())?;
-    union_instantiations(alloc, graph, &rule.left, &rule.right, subst, Some(name))
+    union_tested(alloc, graph, &rule.left, &rule.right, subst, Some(name))
 }
 
 // Unites the instances of both sides if the condition holds. Returns whether they were not found equal before.
+//
+// Whether the right side is whole is tested once for many matches.
 fn apply_to<L: Language, N: Analysis<L>, C: Cond<L, N>>(
     alloc: Global,
     graph: &mut EGraph<L, N>,
     rule: &Rewrite<L, C>,
+    right_is_whole: bool,
     subst: &Subst,
 ) -> Result<bool, Error>
     requires graph { IsGraph graph.old }
     requires rule { CanBeSearched L.form graph.old.table rule.now }
+    requires right { IsTrue right_is_whole ↔ IsSome (pattern_in (tree_of L.form rule.now.right)) }
     requires valid { AreValidValues graph.old (values_of subst.now) }
     requires whole { IsSome (pattern_in (tree_of L.form rule.now.left)) }
     requires values { first_missing (tree_of L.form rule.now.left) (values_of subst.now) ≡ None }
@@ -83,6 +87,9 @@ fn apply_to<L: Language, N: Analysis<L>, C: Cond<L, N>>(
     if !rule.condition.holds(alloc, subst, graph)? {
         return Ok(false);
     }
+    if !right_is_whole {
+        return Err(Error::NotATerm);
+    }
     unite(alloc, graph, rule, subst)
 }
 
@@ -92,11 +99,13 @@ fn apply_answer<L: Language, N: Analysis<L>, C: Cond<L, N>>(
     alloc: Global,
     graph: &mut EGraph<L, N>,
     rule: &Rewrite<L, C>,
+    right_is_whole: bool,
     found: &Matches,
     answer: usize,
 ) -> Result<bool, Error>
     requires graph { IsGraph graph.old }
     requires rule { CanBeSearched L.form graph.old.table rule.now }
+    requires right { IsTrue right_is_whole ↔ IsSome (pattern_in (tree_of L.form rule.now.right)) }
     requires found { CanBeApplied (tree_of L.form rule.now.left) found.now graph.old }
     requires answer { answer < length found.now }
     ensures applies { IfOk result (AppliesOne (C.answers rule.now.condition) (tree_of L.form rule.now.left)
@@ -108,7 +117,7 @@ fn apply_answer<L: Language, N: Analysis<L>, C: Cond<L, N>>(
         (C.refuses rule.now.condition) (tree_of L.form rule.now.right) (slice_index_or found.now answer []) graph.old e) }
 {
     let subst = found.substitution(alloc, answer)?;
-    apply_to(alloc, graph, rule, &subst)
+    apply_to(alloc, graph, rule, right_is_whole, &subst)
 }
 
 // Unites the instances of both sides for each match in turn, if the condition holds then. Returns for how many matches
@@ -135,9 +144,10 @@ fn apply_found<L: Language, N: Analysis<L>, C: Cond<L, N>>(
     ensures err { IfErr result (λ e. IsShortage e
         ⊎ IsRefusedRewrite (C.refuses rule.now.condition) (tree_of L.form rule.now.right) e) }
 {
+    let right_is_whole = is_whole(&rule.right);
     let mut united = 0;
     for answer in 0..found.len() {
-        united += usize::from(apply_answer(alloc, graph, rule, found, answer)?);
+        united += usize::from(apply_answer(alloc, graph, rule, right_is_whole, found, answer)?);
     }
     Ok(united)
 }

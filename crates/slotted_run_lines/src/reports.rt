@@ -93,6 +93,11 @@ fn write_run<H: Hook<Small, (), String>>(
     write_report(&report, text)
 }
 
+// Lets a runner go, and its graph by its table.
+fn let_go<H: Hook<Small, (), String>>(runner: Counted<H>) {
+    let _ = runner.egraph.into_table();
+}
+
 // Writes the reports of a new runner.
 fn write_runner(
     alloc: Global,
@@ -101,7 +106,23 @@ fn write_runner(
     text: &mut String,
 ) -> Result<(), Error> {
     let runner = Runner::new(alloc, SlotTable::new(alloc), (), clock)?;
-    write_run(&mut limited(runner, numbers), most(numbers.first), text)
+    let mut runner = limited(runner, numbers);
+    let written = write_run(&mut runner, most(numbers.first), text);
+    let_go(runner);
+    written
+}
+
+// Resumes a runner after its first run, and writes its report.
+fn write_more(
+    runner: &mut Counted<NoHook>,
+    written: Result<(), Error>,
+    most: u32,
+    text: &mut String,
+) -> Result<(), Error> {
+    written?;
+    text.push_str("; resumed ")?;
+    runner.resume();
+    write_run(runner, most, text)
 }
 
 // Writes the report of a new runner, and that of the same runner after it went on to another limit of turns.
@@ -113,11 +134,12 @@ fn write_resumed(
 ) -> Result<(), Error> {
     let runner: Counted<NoHook> = Runner::new(alloc, SlotTable::new(alloc), (), clock)?;
     let mut runner = runner.with_iter_limit(limit(numbers.second));
-    write_run(&mut runner, most(numbers.first), text)?;
-    text.push_str("; resumed ")?;
+    let most = most(numbers.first);
+    let written = write_run(&mut runner, most, text);
     let mut runner = runner.with_iter_limit(limit(numbers.third));
-    runner.resume();
-    write_run(&mut runner, most(numbers.first), text)
+    let written = write_more(&mut runner, written, most, text);
+    let_go(runner);
+    written
 }
 
 // Writes the reports of a new runner with a hook.
@@ -129,12 +151,10 @@ fn write_hooked(
     text: &mut String,
 ) -> Result<(), Error> {
     let runner = Runner::new(alloc, SlotTable::new(alloc), (), clock)?;
-    let runner = limited(runner, numbers);
-    write_run(
-        &mut runner.with_hook(Enough { at }),
-        most(numbers.first),
-        text,
-    )
+    let mut runner = limited(runner, numbers).with_hook(Enough { at });
+    let written = write_run(&mut runner, most(numbers.first), text);
+    let_go(runner);
+    written
 }
 
 // Returns the report of a run without a runner.

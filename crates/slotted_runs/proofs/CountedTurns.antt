@@ -7,10 +7,10 @@ use Rattle.slotted_nodes.specs.Form.{Form}
 use Rattle.slotted_model_rules.specs.Conditions.{Values}
 use Rattle.slotted_operations.specs.Graph.{Graph}
 use Rattle.slotted_rules.specs.Applying.{HasProgressed}
-use Rattle.slotted_rules.specs.Counting.{CountsAndModifies, RefusesCounted}
+use Rattle.slotted_rules.specs.Counting.{CountsAndModifies, IsTurn, RefusesCounted}
 use Rattle.slotted_rules.specs.declared.counting.TurnCounts.{TurnCounts}
 use Rattle.slotted_rules.specs.declared.rewrite.Rewrite.{Rewrite}
-use Rattle.slotted_runs.specs.Counted.{BreaksTurns, GoesOn, IsTurn, TakesTurns, no_turn, reaches_limit, saturates, turn_more}
+use Rattle.slotted_runs.specs.Counted.{BreaksTurns, GoesOn, TakesTurns, no_turn, reaches_limit, saturates, turn_more}
 
 module _ {L C : Type 0} (form : L → Form) (holds : C → Values → Graph → Bool → Type 0) (rules : List (Rewrite L C)) (after : Graph → Graph → Type 0) (limit : ℕ) (g : Graph) where
   pub no-turns : (turns : List TurnCounts) → turns ≡ [] → GoesOn form holds rules after g turns g

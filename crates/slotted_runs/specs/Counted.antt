@@ -1,22 +1,15 @@
 -- Turns of written rules that are counted. A rule's condition is given by its answers.
---     IsTurn form holds rules after g t h     the rules are applied once, and then `after`, rounds of edits, leads to h; t tells what the rules did, and whether
---                                             the progress measure changed
 --     GoesOn form holds rules after g turns h         turns that each changed the measure, one after another
 --     TakesTurns form holds rules after limit g turns h   turns until one does not change the measure, and at most so many
 --     BreaksTurns form holds refuses rules after limit g h e    turns that each changed it, fewer than the limit, and one more in which a rule is refused
-use Rattle.std.specs.Prelude.{◌≡◌, ◌⊎◌, ◌↔◌, ◌<◌, ℕ, List, [], ◌∷◌, ◌++◌, length, Bool, true, false, IsTrue}
+use Rattle.std.specs.Prelude.{◌≡◌, ◌<◌, ℕ, List, [], ◌∷◌, ◌++◌, length, Bool, true, false}
 use Rattle.slotted_slots.specs.declared.error.Error.{Error}
 use Rattle.slotted_nodes.specs.Form.{Form}
 use Rattle.slotted_model_rules.specs.Conditions.{Values}
 use Rattle.slotted_operations.specs.Graph.{Graph}
-use Rattle.slotted_rules.specs.Applying.{HasProgressed}
-use Rattle.slotted_rules.specs.Counting.{CountsAndModifies, RefusesCounted}
+use Rattle.slotted_rules.specs.Counting.{IsTurn, RefusesCounted}
 use Rattle.slotted_rules.specs.declared.counting.TurnCounts.{TurnCounts}
 use Rattle.slotted_rules.specs.declared.rewrite.Rewrite.{Rewrite}
-
-pub record IsTurn {L C : Type 0} (form : L → Form) (holds : C → Values → Graph → Bool → Type 0) (rules : List (Rewrite L C)) (after : Graph → Graph → Type 0) (g : Graph) (t : TurnCounts) (h : Graph) : Type 0 where
-  pub counts : CountsAndModifies form holds rules after g t.rules.items h
-  pub changed : IsTrue t.changed ↔ HasProgressed g.image h.image
 
 pub data GoesOn {L C : Type 0} (form : L → Form) (holds : C → Values → Graph → Bool → Type 0) (rules : List (Rewrite L C)) (after : Graph → Graph → Type 0) : Graph → List TurnCounts → Graph → Type 0 where
   no_turn : {g : Graph} → GoesOn form holds rules after g [] g

@@ -16,6 +16,7 @@ use slotted_languages::Language;
 use slotted_slots::{AppliedId, Error, SlotTable};
 use slotted_terms::expr::RecExpr;
 use std::alloc::Global;
+use std::mem::replace;
 
 /// Applies rules to its graph in turns, until its hook, a limit or saturation stops the run.
 ///
@@ -131,7 +132,8 @@ impl<
     pub fn with_egraph(mut self, egraph: EGraph<L, N>) -> Self
         ensures { let p = parts_of self in parts_of result ≡ record p { graph = egraph } }
     {
-        self.egraph = egraph;
+        let former = replace(&mut self.egraph, egraph);
+        let _ = former.into_table();
         self
     }
 
@@ -160,6 +162,13 @@ impl<
     {
         self.limits.time = nanoseconds;
         self
+    }
+
+    /// Returns the table of slots of the runner's graph, and drops the runner.
+    pub fn into_table(self) -> SlotTable
+        ensures { result ≡ self.egraph.table }
+    {
+        self.egraph.into_table()
     }
 
     /// Lets a runner that has stopped go on: the next `run` takes turns again. What it has stored stays, so its limits

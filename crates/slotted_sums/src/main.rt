@@ -64,7 +64,10 @@ fn answer_line(rt: &HostRuntime, line: &str) -> Result<()> {
     }
     let table = SlotTable::new(rt.alloc());
     let runner: SumRunner = Runner::new(rt.alloc(), table, ConstFold, StillClock)?;
-    answer_term(rt, &mut runner.with_node_limit(NODE_LIMIT), line)
+    let mut runner = runner.with_node_limit(NODE_LIMIT);
+    let answered = answer_term(rt, &mut runner, line);
+    let _ = runner.into_table();
+    answered
 }
 
 fn main(rt: HostRuntime) -> Result<()> {

@@ -71,18 +71,46 @@ fn add_both(graph: &mut EGraph<Small>, texts: &str) -> Result<(AppliedId, Applie
     Ok((left, right))
 }
 
+// Adds the terms of two texts as the word wants them added.
+fn add_for(
+    graph: &mut EGraph<Small>,
+    word: &str,
+    texts: &str,
+) -> Result<(AppliedId, AppliedId), Error> {
+    match word {
+        "union" => add_syn_both(graph, texts),
+        _ => add_both(graph, texts),
+    }
+}
+
 // Returns the answer to a word about two texts.
 fn answer_of_texts(
     alloc: Global,
     graph: &mut EGraph<Small>,
     word: &str,
     texts: &str,
-) -> Result<bool, Error> {
-    let (left, right) = match word {
-        "union" => add_syn_both(graph, texts)?,
-        _ => add_both(graph, texts)?,
-    };
-    answer_of_ids(alloc, graph, word, &left, &right)
+) -> Result<&'static str, Error> {
+    let (left, right) = add_for(graph, word, texts)?;
+    let holds = answer_of_ids(alloc, graph, word, &left, &right)?;
+    Ok(told(word, holds))
+}
+
+// Decides the graph with a limit, and returns whether two ids are equal, if they are valid.
+fn verdict_of_ids(
+    alloc: Global,
+    graph: &mut EGraph<Small>,
+    left: &AppliedId,
+    right: &AppliedId,
+    limit: usize,
+) -> Result<&'static str, Error> {
+    if !graph.is_valid(left) || !graph.is_valid(right) {
+        return Err(Error::NotATerm);
+    }
+    match decided_eq(alloc, graph, left, right, limit)? {
+        Verdict::Yes => Ok("yes"),
+        Verdict::No => Ok("no"),
+        Verdict::Open => Ok("open"),
+    }
 }
 
 // Decides the graph with the limit of a text, and returns whether the terms behind the limit are equal.
@@ -90,14 +118,7 @@ fn verdict(alloc: Global, graph: &mut EGraph<Small>, text: &str) -> Result<&'sta
     let (limit, texts) = text.split_once(" ").unwrap_or((text, ""));
     let limit = limit.parse::<usize>().unwrap_or(LIMIT);
     let (left, right) = add_both(graph, texts)?;
-    if !graph.is_valid(&left) || !graph.is_valid(&right) {
-        return Err(Error::NotATerm);
-    }
-    match decided_eq(alloc, graph, &left, &right, limit)? {
-        Verdict::Yes => Ok("yes"),
-        Verdict::No => Ok("no"),
-        Verdict::Open => Ok("open"),
-    }
+    verdict_of_ids(alloc, graph, &left, &right, limit)
 }
 
 // Returns how many symmetries were met, and how many of them are open.
@@ -119,6 +140,12 @@ fn asserted(alloc: Global, graph: &EGraph<Small>) -> Result<String, Error> {
     Ok(format!(in alloc; "{count}")?)
 }
 
+// Returns a text without the last line feed.
+fn trimmed(alloc: Global, text: Result<String, Error>) -> Result<String, Error> {
+    let text = text?;
+    Ok(String::from_str(alloc, text.trim_end())?)
+}
+
 // Decides the graph, and returns the proof that the terms of two texts are equal, without the last line feed.
 fn explained(alloc: Global, graph: &mut EGraph<Small>, texts: &str) -> Result<String, Error> {
     let (left, right) = texts.split_once(" == ").unwrap_or((texts, ""));
@@ -127,11 +154,10 @@ fn explained(alloc: Global, graph: &mut EGraph<Small>, texts: &str) -> Result<St
     if !graph.is_valid_expr(&left) || !graph.is_valid_expr(&right) {
         return Err(Error::NotATerm);
     }
-    let Explained::Proved(proof) = decided_explain(alloc, graph, &left, &right, LIMIT)? else {
-        return Err(Error::NotEqual);
-    };
-    let text = proof.to_string(alloc, graph)?;
-    Ok(String::from_str(alloc, text.trim_end())?)
+    match decided_explain(alloc, graph, &left, &right, LIMIT)? {
+        Explained::Proved(proof) => trimmed(alloc, proof.to_string(alloc, graph)),
+        _ => Err(Error::NotEqual),
+    }
 }
 
 // Returns an answer as text.
@@ -144,22 +170,34 @@ fn told(word: &str, holds: bool) -> &'static str {
     }
 }
 
+// Returns an answer as a text of its own.
+fn text_of(alloc: Global, answer: Result<&'static str, Error>) -> Result<String, Error> {
+    Ok(String::from_str(alloc, answer?)?)
+}
+
+// Returns the answer to a word about texts.
+fn answer_of_word(
+    alloc: Global,
+    graph: &mut EGraph<Small>,
+    word: &str,
+    texts: &str,
+) -> Result<String, Error> {
+    match word {
+        "explain" => explained(alloc, graph, texts),
+        "verdict" => text_of(alloc, verdict(alloc, graph, texts)),
+        _ => text_of(alloc, answer_of_texts(alloc, graph, word, texts)),
+    }
+}
+
 // Returns the answer to a line.
 fn answer(alloc: Global, graph: &mut EGraph<Small>, line: &str) -> Result<String, Error> {
-    match line {
-        "symmetries" => return counts(alloc, graph),
-        "asserted" => return asserted(alloc, graph),
-        "decide" => return Ok(String::from_str(alloc, decided(alloc, graph)?)?),
-        _ => {}
-    }
     let (word, texts) = line.split_once(" ").unwrap_or((line, ""));
-    match word {
-        "explain" => return explained(alloc, graph, texts),
-        "verdict" => return Ok(String::from_str(alloc, verdict(alloc, graph, texts)?)?),
-        _ => {}
+    match line {
+        "symmetries" => counts(alloc, graph),
+        "asserted" => asserted(alloc, graph),
+        "decide" => text_of(alloc, decided(alloc, graph)),
+        _ => answer_of_word(alloc, graph, word, texts),
     }
-    let holds = answer_of_texts(alloc, graph, word, texts)?;
-    Ok(String::from_str(alloc, told(word, holds))?)
 }
 
 // Answers a line, or writes it as it stands.
@@ -188,7 +226,11 @@ fn answer_lines(rt: &HostRuntime, graph: &mut EGraph<Small>, session: &str) -> i
 // Answers a session over a graph of its own.
 fn answer_session(rt: &HostRuntime, session: &str) -> io::Result<()> {
     match EGraph::<Small>::new(rt.alloc(), SlotTable::new(rt.alloc()), ()) {
-        Ok(mut graph) => answer_lines(rt, &mut graph, session),
+        Ok(mut graph) => {
+            let answered = answer_lines(rt, &mut graph, session);
+            let _ = graph.into_table();
+            answered
+        }
         Err(_) => Err(io::Error::from(ErrorKind::OutOfMemory)),
     }
 }

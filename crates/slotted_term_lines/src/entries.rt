@@ -3,7 +3,7 @@
 //! An entry is written as its equation, what its line in a printed proof says behind `by`, its number, and the length
 //! of the list.
 use crate::steps::{entered, number};
-use crate::writing::{debugged, write_shown, write_test};
+use crate::writing::{write_derived, write_shown, write_test};
 use slotted_proofs::{ProofLines, ProofList, ProvenEq, reasons};
 use slotted_slots::{Error, SlotTable};
 use std::alloc::Global;
@@ -110,9 +110,21 @@ impl Entries {
         text: &mut String,
     ) -> Result<(), Error> {
         match entered(alloc, &mut self.list, &self.numbers, call, words, table) {
-            Ok(p) => self.keep(alloc, p, table, text)?,
-            Err(error) => write!(text, "{error:?}")?,
+            Ok(p) => self.keep(alloc, p, table, text),
+            Err(error) => write_derived(alloc, &error, text),
         }
+    }
+
+    // Writes the entry or the error that a call answers, and how many entries there are then.
+    fn write_call(
+        &mut self,
+        alloc: Global,
+        call: &str,
+        words: &str,
+        table: &mut SlotTable,
+        text: &mut String,
+    ) -> Result<(), Error> {
+        self.write_entered(alloc, call, words, table, text)?;
         let count = self.list.len();
         Ok(write!(text, " of {count}")?)
     }
@@ -135,9 +147,9 @@ impl Entries {
     ) -> Result<(), Error> {
         match call {
             "is_empty" => write_test(Ok(self.list.is_empty()), text),
-            "asserted" => Ok(debugged(alloc, &self.list.asserted(), text)?),
+            "asserted" => write_derived(alloc, &self.list.asserted(), text),
             "lines" => self.write_proof(alloc, words, text),
-            _ => self.write_entered(alloc, call, words, table, text),
+            _ => self.write_call(alloc, call, words, table, text),
         }
     }
 }

@@ -1,8 +1,9 @@
 //! The calls on equations, and their answers.
 ghost use Rattle.slotted_theory.specs.FiniteMaps.{IsInjectiveMap};
 
+use crate::elements::is_cloned;
 use crate::reading::{equation, map_of, parted};
-use crate::writing::{write_shown, write_test};
+use crate::writing::{write_answered, write_test};
 use slotted_proofs::Equation;
 use slotted_slots::{AppliedId, Error, Id, Slot, SlotMap, SlotTable};
 use std::alloc::Global;
@@ -67,7 +68,27 @@ fn write_count(alloc: Global, e: &Equation, text: &mut String) -> Result<(), Err
 
 // Returns whether the copy and the clone of an equation equal it.
 fn is_copied(alloc: Global, e: &Equation) -> Result<bool, Error> {
-    Ok(e.copy(alloc)? == *e && e.clone()? == *e)
+    Ok(e.copy(alloc)? == *e && is_cloned(e)?)
+}
+
+// Writes the answer of a call on an equation and a map.
+fn write_answer(
+    alloc: Global,
+    call: &str,
+    e: &Equation,
+    on: &SlotMap,
+    table: &mut SlotTable,
+    text: &mut String,
+) -> Result<(), Error>
+    requires left { IsInjectiveMap e.now.l.m }
+    requires right { IsInjectiveMap e.now.r.m }
+{
+    match call {
+        "slots" => write_count(alloc, e, text),
+        "copy" => write_test(is_copied(alloc, e), text),
+        "correspondence" => write_answered(e.correspondence(alloc), table, text),
+        _ => write_answered(made(alloc, call, e, on, table), table, text),
+    }
 }
 
 // Writes the answer of a call on an equation, which a map may follow.
@@ -81,10 +102,5 @@ pub(crate) fn write_equation(
     let (words, map) = parted(words, " by ");
     let on = map_of(alloc, table, map)?;
     let e = equation(alloc, table, words)?;
-    match call {
-        "slots" => write_count(alloc, &e, text),
-        "copy" => write_test(is_copied(alloc, &e), text),
-        "correspondence" => write_shown(&e.correspondence(alloc)?, table, text),
-        _ => write_shown(&made(alloc, call, &e, &on, table)?, table, text),
-    }
+    write_answer(alloc, call, &e, &on, table, text)
 }

@@ -59,11 +59,19 @@ fn answer_line(rt: &HostRuntime, entries: &mut Entries, line: &str) -> io::Resul
     }
 }
 
+// Answers a line that was read.
+fn answer_read(
+    rt: &HostRuntime,
+    entries: &mut Entries,
+    line: io::Result<String>,
+) -> io::Result<()> {
+    answer_line(rt, entries, &line?)
+}
+
 fn main(rt: HostRuntime) -> io::Result<()> {
     let mut entries = Entries::new(rt.alloc());
     for line in rt.lines(rt.alloc()) {
-        let line = line?;
-        answer_line(&rt, &mut entries, &line)?;
+        answer_read(&rt, &mut entries, line)?;
     }
     Ok(())
 }

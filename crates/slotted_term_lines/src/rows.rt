@@ -15,7 +15,7 @@ use crate::texts::{write_pattern, write_term};
 use crate::writing::{debugged, write_test};
 use slotted_languages::Language;
 use slotted_maps::SmallHashMap;
-use slotted_slots::{Error, SlotTable, SmallHashSet};
+use slotted_slots::{AppliedId, Error, SlotMap, SlotTable, SmallHashSet};
 use slotted_small::Small;
 use slotted_symbols::SymbolLang;
 use std::alloc::{AllocError, Global};
@@ -49,6 +49,23 @@ fn write_on_outer(
     write_answer(alloc, call, &node, &m, table, text)
 }
 
+// Writes the answer of a call on an applied id, its map or the values of that, beside a map.
+fn write_on_applied(
+    alloc: Global,
+    call: &str,
+    kind: &str,
+    applied: &mut AppliedId,
+    m: &SlotMap,
+    table: &mut SlotTable,
+    text: &mut String,
+) -> Result<(), Error> {
+    match kind {
+        "Map" => write_maps(alloc, call, &mut applied.m, m, table, text),
+        "Set" => write_sets(alloc, call, &applied.m, m, table, text),
+        _ => write_applied(alloc, call, applied, m, table, text),
+    }
+}
+
 // Writes the answer of a call on an applied id, its map or the values of that, which a map may follow.
 fn write_over_maps(
     alloc: Global,
@@ -61,11 +78,7 @@ fn write_over_maps(
     let (words, map) = parted(words, " by ");
     let m = map_of(alloc, table, map)?;
     let mut applied = child(alloc, table, words)?;
-    match kind {
-        "Map" => write_maps(alloc, call, &mut applied.m, &m, table, text),
-        "Set" => write_sets(alloc, call, &applied.m, &m, table, text),
-        _ => write_applied(alloc, call, &applied, &m, table, text),
-    }
+    write_on_applied(alloc, call, kind, &mut applied, &m, table, text)
 }
 
 // Writes the answer of a row about slots, sets or maps.
@@ -129,12 +142,23 @@ fn write_row(
     }
 }
 
-// Returns the answer of a row over a table of its own. An error stands behind what was written before it.
+// Writes the answer of a row over a table of its own. An error stands behind what was written before it.
+fn write_told(
+    alloc: Global,
+    entries: &mut Entries,
+    row: &str,
+    text: &mut String,
+) -> Result<(), AllocError> {
+    let mut table = SlotTable::new(alloc);
+    match write_row(alloc, entries, row, &mut table, text) {
+        Ok(()) => Ok(()),
+        Err(error) => debugged(alloc, &error, text),
+    }
+}
+
+// Returns the answer of a row.
 pub fn told(alloc: Global, entries: &mut Entries, row: &str) -> Result<String, AllocError> {
     let mut text = String::new(alloc);
-    let mut table = SlotTable::new(alloc);
-    if let Err(error) = write_row(alloc, entries, row, &mut table, &mut text) {
-        debugged(alloc, &error, &mut text)?;
-    }
+    write_told(alloc, entries, row, &mut text)?;
     Ok(text)
 }

@@ -1,4 +1,5 @@
 //! The calls on small sets, and their answers.
+use crate::reading::parted;
 use crate::writing::{write_set, write_shown, write_test};
 use slotted_slots::{Error, Slot, SlotMap, SlotTable, SmallHashSet};
 use std::alloc::Global;
@@ -61,8 +62,9 @@ fn write_step(
     table: &mut SlotTable,
     text: &mut String,
 ) -> Result<(), Error> {
-    let (call, name) = words.split_once(':').unwrap_or((words, ""));
-    write_test(step(set, call, table.named(name)?), text)?;
+    let (call, name) = parted(words, ":");
+    let slot = table.named(name)?;
+    write_test(step(set, call, slot), text)?;
     let count = set.len();
     write!(text, " {count} ")?;
     for slot in set.iter() {

@@ -3,7 +3,7 @@ ghost use Rattle.slotted_theory.specs.FiniteMaps.{IsInjectiveMap};
 
 use crate::reading::{applied, equation, parted};
 use slotted_proofs::{Equation, ProofList, ProvenEq};
-use slotted_slots::{AppliedId, Error, SlotTable};
+use slotted_slots::{AppliedId, Error, Slot, SlotTable, SmallHashSet};
 use std::alloc::Global;
 
 // Returns the number of a text, which some list answered before.
@@ -26,26 +26,69 @@ fn explicit(
     list.enter_explicit(alloc, &e.l, &e.r, Some(text))
 }
 
-// Checks the step of a call, over just the slots that stand in `over`.
+// The slots of the classes of both sides.
+type ClassSlots = (SmallHashSet<Slot>, SmallHashSet<Slot>);
+
+// Checks the step of two entries.
+fn checked_transitive(
+    alloc: Global,
+    list: &mut ProofList,
+    numbers: &[ProvenEq],
+    e: &Equation,
+    slots: &ClassSlots,
+    parts: &str,
+) -> Result<ProvenEq, Error> {
+    let (p, q) = parted(parts, " ");
+    let p = number(numbers, p)?;
+    let q = number(numbers, q)?;
+    list.check_transitive(alloc, e, &slots.0, &slots.1, p, q)
+}
+
+// Checks the step of a call, over just the slots of the classes.
 fn checked(
     alloc: Global,
     list: &mut ProofList,
     numbers: &[ProvenEq],
     call: &str,
     e: &Equation,
-    over: &Equation,
+    slots: &ClassSlots,
     parts: &str,
 ) -> Result<ProvenEq, Error> {
+    match call {
+        "check_reflexive" => list.check_reflexive(alloc, e, &slots.0, &slots.1),
+        "check_symmetric" => {
+            let p = number(numbers, parts)?;
+            list.check_symmetric(alloc, e, &slots.0, &slots.1, p)
+        }
+        _ => checked_transitive(alloc, list, numbers, e, slots, parts),
+    }
+}
+
+// Returns the slots that stand in both sides of the equation of a text.
+fn slots_over(alloc: Global, table: &mut SlotTable, sides: &str) -> Result<ClassSlots, Error> {
+    let over = equation(alloc, table, sides)?;
     let left = over.l.m.keys(alloc)?;
     let right = over.r.m.keys(alloc)?;
-    let (p, q) = parted(parts, " ");
+    Ok((left, right))
+}
+
+// Enters an equation by a call that needs nothing of the classes, or checks a step.
+fn enter_equation(
+    alloc: Global,
+    list: &mut ProofList,
+    numbers: &[ProvenEq],
+    call: &str,
+    e: &Equation,
+    slots: &ClassSlots,
+    parts: &str,
+) -> Result<ProvenEq, Error>
+    requires left { IsInjectiveMap e.now.l.m }
+    requires right { IsInjectiveMap e.now.r.m }
+{
     match call {
-        "check_reflexive" => list.check_reflexive(alloc, e, &left, &right),
-        "check_symmetric" => { list.check_symmetric(alloc, e, &left, &right, number(numbers, p)?) }
-        _ => {
-            let (p, q) = (number(numbers, p)?, number(numbers, q)?);
-            list.check_transitive(alloc, e, &left, &right, p, q)
-        }
+        "enter_explicit" => explicit(alloc, list, e, parts),
+        "prove_congruent" => list.prove_congruent(alloc, e, &[], Vec::new(alloc)),
+        _ => checked(alloc, list, numbers, call, e, slots, parts),
     }
 }
 
@@ -62,12 +105,8 @@ fn equated(
     let (sides, parts) = parted(words, " by ");
     let (sides, over) = sides.split_once(" over ").unwrap_or((sides, sides));
     let e = equation(alloc, table, sides)?;
-    let over = equation(alloc, table, over)?;
-    match call {
-        "enter_explicit" => explicit(alloc, list, &e, parts),
-        "prove_congruent" => list.prove_congruent(alloc, &e, &[], Vec::new(alloc)),
-        _ => checked(alloc, list, numbers, call, &e, &over, parts),
-    }
+    let slots = slots_over(alloc, table, over)?;
+    enter_equation(alloc, list, numbers, call, &e, &slots, parts)
 }
 
 // Enters that the class of a text equals itself.

@@ -2,8 +2,8 @@
 //!
 //! For `P / Q` a row is about the node of P over the children of Q.
 use crate::reading::parted;
-use crate::writing::{debugged, write_shown, write_test};
-use slotted_changes::mark_change;
+use crate::writing::{write_derived, write_lines, write_shown, write_test, write_text};
+use slotted_changes::{Marked, mark_change};
 use slotted_languages::LanguageChildren;
 use slotted_patterns::Pattern;
 use slotted_slots::{AppliedId, Error, Id, SlotMap, SlotTable};
@@ -58,13 +58,19 @@ fn write_copy(
     if copy != source || hash_of(copy) != hash_of(source) {
         return Err(Error::NotEqual);
     }
-    Ok(debugged(alloc, copy, text)?)
+    write_derived(alloc, copy, text)
 }
 
 // Writes the derived form of the pattern of a term.
 fn write_pattern_of(alloc: Global, term: &RecExpr<Small>, text: &mut String) -> Result<(), Error> {
     let pattern = re_to_pattern(alloc, term)?;
-    Ok(debugged(alloc, &pattern, text)?)
+    write_derived(alloc, &pattern, text)
+}
+
+// Writes the derived form of the pattern of the term of a pattern.
+fn write_term_of(alloc: Global, pattern: &Pattern<Small>, text: &mut String) -> Result<(), Error> {
+    let term = pattern_to_re(alloc, pattern)?;
+    write_pattern_of(alloc, &term, text)
 }
 
 // Writes the answer of a call on a pattern that copies it or makes a term of it.
@@ -77,7 +83,7 @@ fn write_made(
     match call {
         "copy" => write_copy(alloc, &pattern.copy(alloc)?, pattern, text),
         "clone" => write_copy(alloc, &pattern.clone()?, pattern, text),
-        _ => write_pattern_of(alloc, &pattern_to_re(alloc, pattern)?, text),
+        _ => write_term_of(alloc, pattern, text),
     }
 }
 
@@ -90,14 +96,11 @@ fn write_printed(
     text: &mut String,
 ) -> Result<(), Error> {
     match call {
-        "text" => Ok(text.push_str(&pattern.text(alloc, table)?)?),
+        "text" => write_text(pattern.text(alloc, table), text),
         "show" => write_shown(pattern, table, text),
-        "debug" => Ok(debugged(alloc, pattern, text)?),
-        "lines" => Ok(write!(text, "{pattern:#?}")?),
-        "inside" => {
-            let inside = Some(pattern);
-            Ok(write!(text, "{inside:#?}")?)
-        }
+        "debug" => write_derived(alloc, pattern, text),
+        "lines" => write_lines(pattern, text),
+        "inside" => write_lines(&Some(pattern), text),
         _ => write_made(alloc, call, pattern, text),
     }
 }
@@ -193,7 +196,28 @@ fn are_alike(alloc: Global, words: &str, table: &mut SlotTable) -> Result<bool, 
     left.alpha_eq(alloc, &right)
 }
 
+// Writes two texts beside each other.
+fn write_texts(texts: &Marked, text: &mut String) -> Result<(), Error> {
+    let first = &texts.first;
+    let second = &texts.second;
+    Ok(write!(text, "{first} | {second}")?)
+}
+
 // Writes the texts of two terms with the place marked at which they differ, or `none` if they are alpha-equal.
+fn write_change(
+    alloc: Global,
+    left: &RecExpr<Small>,
+    right: &RecExpr<Small>,
+    table: &SlotTable,
+    text: &mut String,
+) -> Result<(), Error> {
+    match mark_change(alloc, left, right, table)? {
+        Some(texts) => write_texts(&texts, text),
+        None => Ok(text.push_str("none")?),
+    }
+}
+
+// Writes how the terms of two texts differ.
 fn write_marked(
     alloc: Global,
     words: &str,
@@ -203,27 +227,21 @@ fn write_marked(
     let (left, right) = parted(words, " == ");
     let left = read_term(alloc, left, table)?;
     let right = read_term(alloc, right, table)?;
-    match mark_change(alloc, &left, &right, table)? {
-        Some(texts) => {
-            let first = &texts.first;
-            let second = &texts.second;
-            Ok(write!(text, "{first} | {second}")?)
-        }
-        None => Ok(text.push_str("none")?),
-    }
+    write_change(alloc, &left, &right, table, text)
 }
 
 // Writes the derived form of the pattern of a copy, which has to be alpha-equal to its source.
 fn write_term_copy(
     alloc: Global,
-    copy: &RecExpr<Small>,
+    copy: Result<RecExpr<Small>, Error>,
     source: &RecExpr<Small>,
     text: &mut String,
 ) -> Result<(), Error> {
-    if !source.alpha_eq(alloc, copy)? {
+    let copy = copy?;
+    if !source.alpha_eq(alloc, &copy)? {
         return Err(Error::NotEqual);
     }
-    write_pattern_of(alloc, copy, text)
+    write_pattern_of(alloc, &copy, text)
 }
 
 // Writes the answer of a call on the pattern of a term.
@@ -247,11 +265,11 @@ fn write_term_printed(
     text: &mut String,
 ) -> Result<(), Error> {
     match call {
-        "text" => Ok(text.push_str(&term.text(alloc, table)?)?),
+        "text" => write_text(term.text(alloc, table), text),
         "show" => write_shown(term, table, text),
-        "derived" => Ok(debugged(alloc, term, text)?),
-        "lines" => Ok(write!(text, "{term:#?}")?),
-        "copy" => write_term_copy(alloc, &term.copy(alloc)?, term, text),
+        "derived" => write_derived(alloc, term, text),
+        "lines" => write_lines(term, text),
+        "copy" => write_term_copy(alloc, term.copy(alloc), term, text),
         "pattern" => write_as_pattern(alloc, "text", term, table, text),
         _ => write_as_pattern(alloc, call, term, table, text),
     }

@@ -24,6 +24,24 @@ pub(crate) fn write_test(holds: Result<bool, Error>, text: &mut String) -> Resul
     Ok(text.push_str(if holds? { "yes" } else { "no" })?)
 }
 
+// Writes the derived form of a value, as above.
+pub(crate) fn write_derived<T: Debug>(
+    alloc: Global,
+    value: &T,
+    text: &mut String,
+) -> Result<(), Error> {
+    Ok(debugged(alloc, value, text)?)
+}
+
+// Writes the derived form of a value over several lines.
+pub(crate) fn write_lines<T: Debug>(value: &T, text: &mut String) -> Result<(), Error> {
+    Ok(write!(text, "{value:#?}")?)
+}
+
+pub(crate) fn write_text(written: Result<String, Error>, text: &mut String) -> Result<(), Error> {
+    Ok(text.push_str(&written?)?)
+}
+
 // Writes a value as it prints, and a space.
 pub(crate) fn write_shown<T: Show>(
     value: &T,
@@ -32,6 +50,14 @@ pub(crate) fn write_shown<T: Show>(
 ) -> Result<(), Error> {
     let shown = value.show(table);
     Ok(write!(text, "{shown} ")?)
+}
+
+pub(crate) fn write_answered<T: Show + Drop>(
+    value: Result<T, Error>,
+    table: &SlotTable,
+    text: &mut String,
+) -> Result<(), Error> {
+    write_shown(&value?, table, text)
 }
 
 fn write_slots(slots: &[Slot], table: &SlotTable, text: &mut String) -> Result<(), Error> {

@@ -21,12 +21,12 @@ ghost use Rattle.slotted_operations.specs.Reports.{IsFound};
 ghost use Rattle.slotted_graph.specs.Analysed.{CarriesData};
 
 use super::EGraph;
+use crate::writes::adding;
 use slotted_analyses::Analysis;
 use slotted_languages::Language;
 use slotted_lookup::lookup::look_up;
 use slotted_slots::{AppliedId, Error};
 use slotted_terms::expr::RecExpr;
-use slotted_writes::adding;
 
 impl<L: Language, N: Analysis<L>> EGraph<L, N> {
     /// Returns the id of an e-node: what `find` answers for the class of the filed e-node, with the e-node's names put

@@ -9,12 +9,12 @@ ghost use Rattle.slotted_operations.specs.Places.{term_slots};
 ghost use Rattle.slotted_graph.specs.Analysed.{CarriesData};
 
 use super::EGraph;
+use crate::writes::explaining;
 use slotted_analyses::Analysis;
 use slotted_languages::Language;
 use slotted_proofs::ProvenEq;
 use slotted_slots::Error;
 use slotted_terms::expr::RecExpr;
-use slotted_writes::explaining;
 
 impl<L: Language, N: Analysis<L>> EGraph<L, N> {
     /// Explains as `explain_equivalence` does, and modifies no class. New classes, and those whose data has changed,

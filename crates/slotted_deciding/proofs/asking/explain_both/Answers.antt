@@ -25,3 +25,7 @@ returns-in-No-clause-explained g c =
     let b = to_applied c.args.both.now.right in
     let extends = c.in_ok-judge.ensures.goes.extends in
     different-terms h a b (full-extends start h a extends c.requires.left) (full-extends start h b extends c.requires.right) (subst (IsJudged h.image a b) c.in-No.is c.in_ok-judge.ensures.judged)
+
+pub returns-in-Open-clause-explained : goal.returns-in-Open-clause-explained
+returns-in-Open-clause-explained g c =
+    subst (IsJudged c.judge.new.graph.image (to_applied c.args.both.now.left) (to_applied c.args.both.now.right)) c.in-Open.is c.in_ok-judge.ensures.judged
