@@ -8,6 +8,10 @@ mod large;
 #[cfg(test)]
 mod lines;
 #[cfg(test)]
+mod messages;
+#[cfg(test)]
+mod permutations;
+#[cfg(test)]
 mod streams;
 
 ghost use Rattle.std.specs.Prelude.{◌≡◌, IfOk, IfErr, IfSome, OnSome, OnOk};

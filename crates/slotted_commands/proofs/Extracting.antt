@@ -13,7 +13,7 @@ use Rattle.slotted_explain.specs.Causes.{class_found}
 use Rattle.slotted_explain.specs.Graph.{Graph, MakesAtMost, OnlyTakesSlots}
 use Rattle.slotted_explain.specs.Reports.{IsFound}
 use Rattle.slotted_explain.specs.Terms.{entry_at}
-use Rattle.slotted_explain.specs.LeastTerms.{TermEntry}
+use Rattle.slotted_explain.specs.TermEntry.{TermEntry}
 use Rattle.slotted_explain.proofs.EntryForms.{forms_of, least-forms, runs_out-form, slots-forms}
 use Rattle.slotted_explain.specs.LeastTerms.{AreLeastOf, HasEachLiveClass, IsExtracted, LacksEntry, MakesForExtracted, RunsOutForExtracted}
 use Rattle.slotted_commands.specs.Extracted.{IsSmallest, LacksForSmallest, TakesForSmallest, sizes}

@@ -18,7 +18,7 @@ use Rattle.slotted_graph.specs.Analysed.{LowersData}
 use Rattle.slotted_graph.specs.Extension.{ExtendsTo}
 use Rattle.slotted_graph.proofs.Extending.{extends-then}
 use Rattle.slotted_graph.proofs.Saying.{lowers-then}
-use Rattle.slotted_symmetries.specs.Equality.{IsDecidedGraph}
+use Rattle.slotted_deciding.specs.Equality.{IsDecidedGraph}
 use Rattle.slotted_rules.specs.Applying.{HasProgressed}
 use Rattle.slotted_rules.specs.Counting.{CountsAndModifies}
 use Rattle.slotted_rules.specs.declared.counting.TurnCounts.{TurnCounts}

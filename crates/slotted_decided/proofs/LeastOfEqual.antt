@@ -32,7 +32,7 @@ use Rattle.slotted_operations.proofs.Graphs.AtRest.{at-rest}
 use Rattle.slotted_operations.proofs.Graphs.Images.{class_found-is}
 use Rattle.slotted_operations.proofs.LookUps.States.{tree-is}
 use Rattle.slotted_graph.specs.LeastTerms.{IsLeastTerm}
-use Rattle.slotted_symmetries.specs.Equality.{IsDecidedGraph}
+use Rattle.slotted_deciding.specs.Equality.{IsDecidedGraph}
 use Rattle.slotted_decided.specs.Extracted.{CostsLeastOfEqual}
 
 full-within : (k : Kept) (b : Applied) → IsFull (nodes_of k) b → b.0 < length k.classes

@@ -10,8 +10,8 @@ use Rattle.slotted_operations.specs.Graph.{Graph}
 use Rattle.slotted_graph.specs.Extension.{ExtendsTo, IsBetween}
 use Rattle.slotted_graph.specs.States.{IsGraph}
 use Rattle.slotted_graph.proofs.Extending.{extends-itself, extends-then}
-use Rattle.slotted_symmetries.specs.Equality.{IsDecidedGraph}
-use Rattle.slotted_symmetries.proofs.DecidedIds.{decided-full}
+use Rattle.slotted_deciding.specs.Equality.{IsDecidedGraph}
+use Rattle.slotted_deciding.proofs.DecidedIds.{decided-full}
 use Rattle.slotted_rules.specs.Counting.{AppliesRule, SearchesRule}
 use Rattle.slotted_rules.specs.EqualInstances.{HasSettledMatches, HaveEqualInstances}
 use Rattle.slotted_rules.specs.Rewriting.{HasEquationFor, IsSettled}

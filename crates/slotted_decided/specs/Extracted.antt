@@ -12,7 +12,7 @@ use Rattle.slotted_costs.specs.Costs.{cost_of_term}
 use Rattle.slotted_operations.specs.Graph.{Graph, OnlyTakesSlots}
 use Rattle.slotted_operations.specs.Image.{asserted_in}
 use Rattle.slotted_graph.specs.LeastTerms.{IsFullBeside, IsLeastTerm}
-use Rattle.slotted_symmetries.specs.Equality.{IsDecidedGraph}
+use Rattle.slotted_deciding.specs.Equality.{IsDecidedGraph}
 use Rattle.slotted_deciding.specs.Steps.{GoesTo}
 
 abbrev pub CostsLeastOfEqual : {C : Type 0} → Graph → CostFunction C → Applied → Term → Type 0

@@ -18,7 +18,7 @@ use Rattle.slotted_model_rules.specs.Rules.{Rule}
 use Rattle.slotted_rule_patterns.specs.PatternCode.{pattern_in}
 use Rattle.slotted_operations.specs.Graph.{Graph}
 use Rattle.slotted_graph.specs.Extension.{ExtendsTo, IsBetween}
-use Rattle.slotted_symmetries.specs.Equality.{EqualUpTo, IsDecidedGraph}
+use Rattle.slotted_deciding.specs.Equality.{EqualUpTo, IsDecidedGraph}
 use Rattle.slotted_rules.specs.EqualInstances.{HaveEqualInstances}
 use Rattle.slotted_rules.specs.Rewriting.{IsSearched}
 use Rattle.slotted_rules.specs.Applying.{HasProgressed}

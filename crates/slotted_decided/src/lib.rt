@@ -10,3 +10,9 @@ pub mod running;
 
 pub use extracting::{LeastTerm, extract_decided};
 pub use running::{DecidedLimits, DecidedRun, DecidedStop, run_decided};
+pub use slotted_deciding::{
+    Explained, Verdict, decide, decided_eq, decided_explain, is_equal_up_to_symmetries, prove,
+};
+pub use slotted_extract::{
+    AstSize, CostFunction, Extractor, ast_size_extract, extract, extract_by,
+};

@@ -3,7 +3,7 @@ ghost use Rattle.std.specs.Prelude.{◌≡◌, ◌≢◌, ◌⊎◌, ◌↔◌, 
 ghost use Rattle.slotted_slots.specs.Error.{IsShortage};
 ghost use Rattle.slotted_graph.specs.Analysed.{LowersData};
 ghost use Rattle.slotted_graph.specs.Extension.{ExtendsTo};
-ghost use Rattle.slotted_symmetries.specs.Equality.{IsDecidedGraph};
+ghost use Rattle.slotted_deciding.specs.Equality.{IsDecidedGraph};
 ghost use Rattle.slotted_rules.specs.Applying.{AreModified, AreRefusedBy};
 ghost use Rattle.slotted_rules.specs.Counting.{RefusesRule};
 ghost use Rattle.slotted_rules.specs.Written.{CanBeSearched};

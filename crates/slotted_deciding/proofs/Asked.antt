@@ -10,7 +10,7 @@ use Rattle.slotted_model.specs.Classes.{term_of}
 use Rattle.slotted_operations.specs.Graph.{Graph, IsFullId}
 use Rattle.slotted_operations.specs.Image.{Image, asserted_in}
 use Rattle.slotted_operations.specs.ValidIds.{SaysFillingsEqual}
-use Rattle.slotted_symmetries.specs.Equality.{IsDecidedGraph, IsYesIfDecided}
+use Rattle.slotted_deciding.specs.Equality.{IsDecidedGraph, IsYesIfDecided}
 use Rattle.slotted_operations.proofs.CallerLemmas.{fills-itself}
 use Rattle.slotted_graph.proofs.Extending.{full-extends}
 use Rattle.slotted_deciding.specs.Asking.{AreDifferent, AreEqual, IsExplained, IsExplainedOf, StandsFor}

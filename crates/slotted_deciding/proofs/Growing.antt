@@ -17,7 +17,7 @@ use Rattle.slotted_operations.specs.LookUp.{look_up}
 use Rattle.slotted_operations.proofs.Graphs.FreshSlots.{fresh_slots-more}
 use Rattle.slotted_graph.specs.States.{IsGraph}
 use Rattle.slotted_graph.proofs.Extending.{extends-added, extends-itself, extends-takes, extends-then}
-use Rattle.slotted_symmetries.specs.Equality.{EqualUpTo, IsDecidedGraph, IsTwist}
+use Rattle.slotted_deciding.specs.Equality.{EqualUpTo, IsDecidedGraph, IsTwist}
 use Rattle.slotted_deciding.specs.Settling.{ClassIsSettled, IsLookedUpAs, child_at, with_child_at}
 use Rattle.slotted_analyses.specs.Meaning.{IsMergeOf, Meaning}
 use Rattle.slotted_graph.specs.Analysed.{LowersData}

@@ -8,3 +8,15 @@ pub mod NoSymmetry
 pub mod Refusals
 pub mod Asked
 pub mod Assertions
+pub mod TwistedMaps
+pub mod Twists
+pub mod ModelTwists
+pub mod Answering
+pub mod Differences
+pub mod GroupTwists
+pub mod Gaining
+pub mod FoundSides
+pub mod InGroup
+pub mod LeastIds
+pub mod EqualIds
+pub mod DecidedIds

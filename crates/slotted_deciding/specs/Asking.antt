@@ -19,7 +19,7 @@ use Rattle.slotted_operations.specs.Explaining.{StandsAt}
 use Rattle.slotted_operations.specs.Graph.{Graph, IsFullId}
 use Rattle.slotted_operations.specs.Image.{AreDerivable, Image, asserted_in}
 use Rattle.slotted_operations.specs.ValidIds.{Fills}
-use Rattle.slotted_symmetries.specs.Equality.{EqualUpTo}
+use Rattle.slotted_deciding.specs.Equality.{EqualUpTo}
 use Rattle.slotted_deciding.specs.declared.asking.Explained.{Explained}
 use Rattle.slotted_deciding.specs.declared.asking.Explained.TheVariants.{Proved, Undecided, Unequal}
 use Rattle.slotted_deciding.specs.declared.asking.Verdict.{Verdict}

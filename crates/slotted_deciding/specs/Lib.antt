@@ -1,3 +1,5 @@
 pub mod Settling
 pub mod Steps
 pub mod Asking
+pub mod Groups
+pub mod Equality

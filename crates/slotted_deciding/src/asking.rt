@@ -11,13 +11,13 @@ ghost use Rattle.slotted_deciding.specs.Steps.{CanRefuse, GoesTo, LeadsTo};
 
 use crate::deciding::decide;
 use crate::failing::failing;
+use crate::is_equal_up_to_symmetries;
 use crate::proving::proof_between;
 use slotted_analyses::Analysis;
 use slotted_graph::EGraph;
 use slotted_languages::Language;
 use slotted_proofs::ProvenEq;
 use slotted_slots::{AppliedId, Error};
-use slotted_symmetries::is_equal_up_to_symmetries;
 use slotted_terms::expr::RecExpr;
 use std::alloc::Global;
 

@@ -1,7 +1,7 @@
 //! Deciding a graph.
 ghost use Rattle.std.specs.Prelude.{◌≡◌, ◌⊎◌, ◌↔◌, [], IfErr, IfOk, IsErr, IsErrOf, IsNone, IsTrue, OnOk};
 ghost use Rattle.slotted_graph.specs.States.{IsGraph};
-ghost use Rattle.slotted_symmetries.specs.Equality.{IsDecidedGraph};
+ghost use Rattle.slotted_deciding.specs.Equality.{IsDecidedGraph};
 ghost use Rattle.slotted_graph.specs.Analysed.{LowersData};
 ghost use Rattle.slotted_deciding.specs.Steps.{CanRefuse, GoesTo, LeadsTo};
 

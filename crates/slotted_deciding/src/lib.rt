@@ -7,8 +7,11 @@
 
 pub mod asking;
 pub mod deciding;
+pub mod equality;
 pub(crate) mod failing;
 pub mod grouping;
+pub mod groups;
+pub mod least;
 pub mod proving;
 pub mod settling;
 pub(crate) mod stepping;
@@ -17,4 +20,6 @@ pub(crate) mod walking;
 
 pub use asking::{Explained, Verdict, decided_eq, decided_explain};
 pub use deciding::decide;
+pub use equality::is_equal_up_to_symmetries;
+pub use least::least_id;
 pub use proving::prove;

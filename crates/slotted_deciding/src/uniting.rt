@@ -8,6 +8,7 @@ ghost use Rattle.slotted_graph.specs.States.{IsGraph};
 ghost use Rattle.slotted_deciding.specs.Settling.{IsLookedUpAs};
 ghost use Rattle.slotted_deciding.specs.Steps.{CanRefuse, LeadsTo};
 
+use crate::is_equal_up_to_symmetries;
 use crate::settling::{Missing, Turn, Variant};
 use crate::stepping::{checked, explained, step_by};
 use slotted_alike::alike::child_equations;
@@ -16,7 +17,6 @@ use slotted_graph::EGraph;
 use slotted_languages::Language;
 use slotted_proofs::{CongruenceProof, Equation, ProvenEq};
 use slotted_slots::{AppliedId, Error};
-use slotted_symmetries::is_equal_up_to_symmetries;
 use std::alloc::Global;
 
 // Returns the proof of the equation of a child: by the symmetry if the child is twisted.

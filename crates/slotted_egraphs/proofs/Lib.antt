@@ -5,5 +5,5 @@ pub use Rattle.slotted_explain.proofs.LeastLater
 pub use Rattle.slotted_graph.proofs.Extending
 pub use Rattle.slotted_rules.proofs.EqualInstances
 pub use Rattle.slotted_rules.proofs.RuleOrigins
-pub use Rattle.slotted_runs.proofs.RunOrigins
+pub use Rattle.slotted_rules.proofs.RunOrigins
 pub mod Asking

@@ -38,6 +38,7 @@ pub use Rattle.slotted_costs.specs.Costs
 pub use Rattle.slotted_costs.specs.Laws
 pub use Rattle.slotted_explain.specs.Terms
 pub use Rattle.slotted_explain.specs.LeastTerms
+pub use Rattle.slotted_explain.specs.TermEntry
 pub use Rattle.slotted_explain.specs.Chosen
 pub use Rattle.slotted_explain.specs.FiledNodes
 pub use Rattle.slotted_explain.specs.Measure
@@ -62,10 +63,10 @@ pub use Rattle.slotted_rule_patterns.specs.Values
 pub use Rattle.slotted_graph.specs.Extension
 pub use Rattle.slotted_graph.specs.States
 pub use Rattle.slotted_graph.specs.Matching
-pub use Rattle.slotted_instances.specs.Building
-pub use Rattle.slotted_instances.specs.Methods
-pub use Rattle.slotted_instances.specs.Putting
-pub use Rattle.slotted_instances.specs.Uniting
+pub use Rattle.slotted_rules.specs.Building
+pub use Rattle.slotted_rules.specs.Methods
+pub use Rattle.slotted_rules.specs.Putting
+pub use Rattle.slotted_rules.specs.Uniting
 pub use Rattle.slotted_rules.specs.Rewriting
 pub use Rattle.slotted_rules.specs.Written
 pub use Rattle.slotted_rules.specs.Applying
@@ -73,12 +74,12 @@ pub use Rattle.slotted_rules.specs.EqualInstances
 pub use Rattle.slotted_rules.specs.Counting
 pub use Rattle.slotted_rules.specs.RuleOrigins
 -- of runs
-pub use Rattle.slotted_runs.specs.Seen
-pub use Rattle.slotted_runs.specs.Turning
-pub use Rattle.slotted_runs.specs.Runs
-pub use Rattle.slotted_runs.specs.Eqsat
-pub use Rattle.slotted_runs.specs.Counted
-pub use Rattle.slotted_runs.specs.RunOrigins
+pub use Rattle.slotted_rules.specs.Seen
+pub use Rattle.slotted_rules.specs.Turning
+pub use Rattle.slotted_rules.specs.Runs
+pub use Rattle.slotted_rules.specs.Eqsat
+pub use Rattle.slotted_rules.specs.Counted
+pub use Rattle.slotted_rules.specs.RunOrigins
 -- what a caller of its own says
 pub mod Filed
 pub mod AppliedRules

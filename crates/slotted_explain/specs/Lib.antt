@@ -19,6 +19,7 @@ pub use Rattle.slotted_graph.specs.Explaining
 pub use Rattle.slotted_graph.specs.Syn
 pub use Rattle.slotted_graph.specs.Terms
 pub use Rattle.slotted_graph.specs.LeastTerms
+pub use Rattle.slotted_graph.specs.declared.entry.TermEntry
 pub use Rattle.slotted_graph.specs.Chosen
 pub use Rattle.slotted_graph.specs.FiledNodes
 pub use Rattle.slotted_graph.specs.Measure

@@ -21,7 +21,7 @@ use Rattle.slotted_graph.specs.ValidIds.{IsValidId}
 use Rattle.slotted_graph.proofs.Images.{class_found-is}
 use Rattle.slotted_graph.proofs.ValidIds.{findable-within, of-valid}
 use Rattle.slotted_graph.specs.Terms.{entry_at}
-use Rattle.slotted_graph.specs.LeastTerms.{TermEntry}
+use Rattle.slotted_graph.specs.declared.entry.TermEntry.{TermEntry}
 use Rattle.slotted_graph.specs.LeastTerms.{AreChosenOf, AreLeastOf, IsExtracted, IsLeastTerm, IsMadeOf, IsOfChosen, LacksEntry}
 
 module _ {L C : Type 0} (form : L → Form) (g : Graph) (costs : CostFunction C) (es : List (Option (TermEntry L C))) (of : AreLeastOf form g costs es) (a : Applied) (valid : IsValidId g a) where

@@ -13,7 +13,7 @@ mod rules;
 
 use anyhow::Result;
 use folding::{Folded, fold};
-use slotted_runs::MachineClock;
+use slotted_rules::MachineClock;
 
 // The limit of turns before a line sets one.
 const USUAL_TURNS: usize = 30;

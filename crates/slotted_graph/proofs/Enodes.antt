@@ -44,7 +44,7 @@ use Rattle.slotted_operations.proofs.Ids.CanonicalTerms.{places-counted}
 use Rattle.slotted_operations.proofs.Graphs.Images.{class_found-is, found_id-is}
 use Rattle.slotted_operations.proofs.LookUps.States.{looked_up-is}
 use Rattle.slotted_operations.proofs.Ids.ValidIds.{findable-children, findable-within, node-children_valid}
-use Rattle.slotted_least_terms.proofs.Names.{count-moved}
+use Rattle.slotted_graph.proofs.Names.{count-moved}
 use Rattle.slotted_graph.specs.FiledNodes.{CanRunOutForDump, CanRunOutForEnodes, HasEachNode, HasLargeRow, HasLargeRowOf, IsEnode, shapes_found, slots_for_dump, slots_for_enodes}
 
 -- tests that agree on a range let the same numbers through

@@ -6,8 +6,8 @@ use Rattle.slotted_model.specs.Cost.{CostFunction}
 use Rattle.slotted_operations.specs.Causes.{class_found}
 use Rattle.slotted_operations.specs.Graph.{Graph, OnlyReads}
 use Rattle.slotted_operations.specs.Image.{Image}
-use Rattle.slotted_least_terms.specs.Chosen.{AreChosen}
-use Rattle.slotted_least_terms.specs.declared.entry.TermEntry.{TermEntry}
+use Rattle.slotted_graph.specs.Chosen.{AreChosen}
+use Rattle.slotted_graph.specs.declared.entry.TermEntry.{TermEntry}
 use Rattle.slotted_graph.specs.LeastTerms.{AreChosenOf, AreLeastOf, HasEachLiveClass}
 
 module _ {L C : Type 0} (form : L → Form) (g h : Graph) (reads : OnlyReads g h) (es : List (Option (TermEntry L C))) where

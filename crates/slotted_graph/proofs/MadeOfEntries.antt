@@ -30,11 +30,11 @@ use Rattle.slotted_operations.proofs.Graphs.Images.{class_found-is, found_id-is}
 use Rattle.slotted_operations.proofs.LookUps.States.{tree-is}
 use Rattle.slotted_operations.proofs.Graphs.AtRest.{at-rest}
 use Rattle.slotted_operations.proofs.Ids.ValidIds.{fills-filling, findable-within, of-valid}
-use Rattle.slotted_least_terms.specs.Chosen.{AreChosen, IsChoice}
-use Rattle.slotted_least_terms.specs.Least.{AreLeast}
-use Rattle.slotted_least_terms.specs.Terms.{IsMade, entry_at}
-use Rattle.slotted_least_terms.specs.declared.entry.TermEntry.{TermEntry}
-use Rattle.slotted_least_terms.proofs.ExtractedTerms.{made-cost, made-equal, made-least, made-least_equal, made-least_term, made-looked_up}
+use Rattle.slotted_graph.specs.Chosen.{AreChosen, IsChoice}
+use Rattle.slotted_graph.specs.Least.{AreLeast}
+use Rattle.slotted_graph.specs.Terms.{IsMade, entry_at}
+use Rattle.slotted_graph.specs.declared.entry.TermEntry.{TermEntry}
+use Rattle.slotted_graph.proofs.ExtractedTerms.{made-cost, made-equal, made-least, made-least_equal, made-least_term, made-looked_up}
 use Rattle.slotted_graph.specs.LeastTerms.{AreChosenOf, CostsAsEntered, HasEachLiveClass, IsEqualTo, IsExtracted, IsFullBeside, IsLeastTerm}
 
 module _ {L C : Type 0} (form : L → Form) (k : Kept) (r : Rows) (good : Good k) (rests : RestsWith k r) (costs : CostFunction C) (es : List (Option (TermEntry L C)))

@@ -29,10 +29,10 @@ use Rattle.slotted_operations.specs.Graph.{Graph, MakesAtMost}
 use Rattle.slotted_operations.specs.Image.{asserted_in, found_id}
 use Rattle.slotted_operations.specs.LookUp.{look_up_term}
 use Rattle.slotted_operations.specs.ValidIds.{Fills}
-use Rattle.slotted_least_terms.specs.Chosen.{AreChosen}
-use Rattle.slotted_least_terms.specs.Least.{AreLeast}
-use Rattle.slotted_least_terms.specs.Terms.{IsMade, RunsOutWith, entry_at, slots_for}
-pub use Rattle.slotted_least_terms.specs.declared.entry.TermEntry.{TermEntry}
+use Rattle.slotted_graph.specs.Chosen.{AreChosen}
+use Rattle.slotted_graph.specs.Least.{AreLeast}
+use Rattle.slotted_graph.specs.Terms.{IsMade, RunsOutWith, entry_at, slots_for}
+pub use Rattle.slotted_graph.specs.declared.entry.TermEntry.{TermEntry}
 
 pub record AreLeastOf {L C : Type 0} (form : L → Form) (g : Graph) (costs : CostFunction C) (es : List (Option (TermEntry L C))) : Type 0 where
   pub kept : Kept

@@ -28,6 +28,11 @@ pub use Rattle.slotted_operations.specs.Checks
 pub use Rattle.slotted_operations.specs.Leaves
 pub use Rattle.slotted_operations.specs.Explaining
 pub use Rattle.slotted_operations.specs.Syn
-pub use Rattle.slotted_least_terms.specs.Terms
-pub use Rattle.slotted_least_terms.specs.Chosen
+pub use Rattle.slotted_graph.specs.Terms
+pub use Rattle.slotted_graph.specs.Chosen
 pub mod KnownPatterns
+pub mod Terms
+pub mod Placing
+pub mod Least
+pub mod Chosen
+pub mod Frames

@@ -7,20 +7,24 @@
 pub mod adding;
 pub mod editing;
 pub mod egraph;
+pub mod entry;
 pub mod explaining;
+pub mod extracting;
 pub mod merging;
 pub mod method;
 pub mod modifying;
 pub mod rounds;
+pub mod terms;
 pub mod uniting;
 mod writes;
 
 pub use editing::make_edit;
 pub use egraph::steps::Check;
 pub use egraph::{EGraph, totals_rise};
+pub use entry::TermEntry;
 pub use method::SubstMethod;
 pub use modifying::modify_class;
 pub use rounds::{modify_in_rounds, modify_once};
 pub use slotted_classes::Symmetry;
-pub use slotted_least_terms::LeastTerms;
 pub use slotted_reports::ProgressMeasure;
+pub use terms::LeastTerms;

@@ -10,8 +10,9 @@ use slotted_extract::Extractor;
 use slotted_graph::EGraph;
 use slotted_languages::Language;
 use slotted_proofs::{Equation, ProvenEq};
-use slotted_rules::{RewriteT, apply_rewrites, are_valid};
-use slotted_runs::{Clock, NoHook, Report, StopReason, run_eqsat};
+use slotted_rules::{
+    Clock, NoHook, Report, RewriteT, StopReason, apply_rewrites, are_valid, run_eqsat,
+};
 use slotted_slots::{AppliedId, Error, SlotMap};
 use slotted_terms::expr::RecExpr;
 use std::alloc::Global;

@@ -15,11 +15,11 @@ use Rattle.slotted_rules.specs.Applying.{NeverModified}
 use Rattle.slotted_rules.specs.Written.{CanBeSearched}
 use Rattle.slotted_rules.specs.declared.condition.Always.{Always}
 use Rattle.slotted_rules.specs.declared.rewrite.Rewrite.{Rewrite}
-use Rattle.slotted_runs.specs.Runs.{HasReported, MayRefuse}
-use Rattle.slotted_runs.specs.Seen.{new_parts}
-use Rattle.slotted_runs.specs.Turning.{Calls, IsStopClone, RulesOnce, measures}
-use Rattle.slotted_runs.specs.declared.hook.NoHook.{NoHook}
-use Rattle.slotted_runs.specs.declared.report.Report.{Report}
+use Rattle.slotted_rules.specs.Runs.{HasReported, MayRefuse}
+use Rattle.slotted_rules.specs.Seen.{new_parts}
+use Rattle.slotted_rules.specs.Turning.{Calls, IsStopClone, RulesOnce, measures}
+use Rattle.slotted_rules.specs.declared.hook.NoHook.{NoHook}
+use Rattle.slotted_rules.specs.declared.report.Report.{Report}
 use Rattle.slotted_lines.specs.AnsweredIn.{RunAnswers, RunRefused, run_failed, turn_refused}
 use Rattle.slotted_lines.specs.RunsOver.{HasRefusedRules, RunnerState, TellsZero, applies_by, leaves_all, refuses_by, runner_over, searches_by}
 use Rattle.slotted_lines.specs.States.{AreSearchable}

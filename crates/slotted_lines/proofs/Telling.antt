@@ -7,7 +7,7 @@ use Rattle.slotted_theory.specs.Term.{Term}
 use Rattle.slotted_slots.specs.declared.error.Error.{Error}
 use Rattle.slotted_slots.specs.Syntax.{Element}
 use Rattle.slotted_nodes.specs.Form.{Form}
-use Rattle.slotted_runs.specs.declared.report.Report.{Report}
+use Rattle.slotted_rules.specs.declared.report.Report.{Report}
 use Rattle.slotted_operations.specs.Graph.{totals_of}
 use Rattle.slotted_lines.specs.AnsweredIn.{AnsweredIn, IsRuleRefused, RuleAnswers, RunAnswers, rule_made, rule_refused, rules_run, run_refused, told_of_rule, told_of_run}
 use Rattle.slotted_lines.specs.Requests.{makes_rule, runs}

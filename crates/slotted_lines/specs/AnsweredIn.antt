@@ -20,8 +20,8 @@ use Rattle.slotted_commands.specs.declared.answer.Answer.TheVariants.{Done, Refu
 use Rattle.slotted_rules.specs.Written.{AreRead, AreRefused}
 use Rattle.slotted_rules.specs.declared.condition.Always.{Always}
 use Rattle.slotted_rules.specs.declared.rewrite.Rewrite.{Rewrite}
-use Rattle.slotted_runs.specs.declared.report.Report.{Report}
-use Rattle.slotted_runs.specs.declared.report.StopReason.{StopReason}
+use Rattle.slotted_rules.specs.declared.report.Report.{Report}
+use Rattle.slotted_rules.specs.declared.report.StopReason.{StopReason}
 use Rattle.slotted_lines.specs.declared.told.Run.{Run}
 use Rattle.slotted_lines.specs.declared.told.Told.{Told}
 use Rattle.slotted_lines.specs.declared.told.Told.TheVariants.{Plain, Ran}

@@ -23,11 +23,11 @@ use Rattle.slotted_rules.specs.Applying.{NeverModified, RefusesRules}
 use Rattle.slotted_rules.specs.Counting.{AppliesRule, BreaksRule, RefusesRule, SearchesRule}
 use Rattle.slotted_rules.specs.declared.condition.Always.{Always}
 use Rattle.slotted_rules.specs.declared.rewrite.Rewrite.{Rewrite}
-use Rattle.slotted_runs.specs.Runs.{HasRun, IsRefused, MayRefuse}
-use Rattle.slotted_runs.specs.Seen.{Parts, new_parts, stop_of}
-use Rattle.slotted_runs.specs.Turning.{Calls, RefusesTurn, RulesOnce, measures}
-use Rattle.slotted_runs.specs.declared.hook.NoHook.{NoHook}
-use Rattle.slotted_runs.specs.declared.report.StopReason.{StopReason}
+use Rattle.slotted_rules.specs.Runs.{HasRun, IsRefused, MayRefuse}
+use Rattle.slotted_rules.specs.Seen.{Parts, new_parts, stop_of}
+use Rattle.slotted_rules.specs.Turning.{Calls, RefusesTurn, RulesOnce, measures}
+use Rattle.slotted_rules.specs.declared.hook.NoHook.{NoHook}
+use Rattle.slotted_rules.specs.declared.report.StopReason.{StopReason}
 use Rattle.slotted_lines.specs.declared.still.StillClock.{StillClock}
 
 abbrev pub TellsZero : StillClock → ℕ → StillClock → Type 0

@@ -2,8 +2,8 @@
 use Rattle.std.specs.Prelude.{ℕ, List, ◌∷◌, ◌++◌, codes, decimal}
 use Rattle.std.specs.declared.convert.Infallible.{Infallible}
 use Rattle.slotted_commands.specs.Answers.{text_of}
-use Rattle.slotted_runs.specs.declared.report.StopReason.{StopReason}
-use Rattle.slotted_runs.specs.declared.report.StopReason.TheVariants.{Saturated, IterationLimit, TimeLimit, NodeLimit, Other}
+use Rattle.slotted_rules.specs.declared.report.StopReason.{StopReason}
+use Rattle.slotted_rules.specs.declared.report.StopReason.TheVariants.{Saturated, IterationLimit, TimeLimit, NodeLimit, Other}
 use Rattle.slotted_lines.specs.declared.told.Run.{Run}
 use Rattle.slotted_lines.specs.declared.told.Told.{Told}
 use Rattle.slotted_lines.specs.declared.told.Told.TheVariants.{Plain, Ran}

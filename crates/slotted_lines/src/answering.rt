@@ -11,7 +11,7 @@ use crate::session::Session;
 use crate::told::{Run, Told};
 use slotted_commands::Answer;
 use slotted_commands::session::answer;
-use slotted_runs::Report;
+use slotted_rules::Report;
 use slotted_slots::Error;
 use slotted_terms::expr::printing::Printable;
 use std::alloc::Global;

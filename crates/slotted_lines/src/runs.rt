@@ -7,7 +7,7 @@ use crate::session::Session;
 use crate::still::StillClock;
 use slotted_graph::EGraph;
 use slotted_languages::Language;
-use slotted_runs::{NoHook, Report, Runner};
+use slotted_rules::{NoHook, Report, Runner};
 use slotted_slots::{Error, SlotTable};
 use std::alloc::Global;
 use std::convert::Infallible;

@@ -1,5 +1,5 @@
 //! A clock that stands still.
-use slotted_runs::Clock;
+use slotted_rules::Clock;
 
 /// The clock that always tells 0, so that no limit of time is ever passed.
 #[derive(Drop, Debug)]

@@ -3,7 +3,7 @@ ghost use Rattle.std.specs.Prelude.{◌≡◌, Some};
 ghost use Rattle.slotted_lines.specs.Texts.{run_text, told_text, word_of};
 
 use slotted_commands::Answer;
-use slotted_runs::StopReason;
+use slotted_rules::StopReason;
 use std::convert::Infallible;
 use std::fmt;
 

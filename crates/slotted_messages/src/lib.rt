@@ -10,6 +10,3 @@ mod tokens;
 
 pub use columns::{token_column, token_count, word_column};
 pub use message::Message;
-
-#[cfg(test)]
-mod tests;

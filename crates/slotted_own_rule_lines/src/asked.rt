@@ -5,10 +5,12 @@ use crate::own_conditions::{FirstOnly, RefusesLater};
 use crate::own_methods::Asserting;
 use crate::own_rules::Union;
 use slotted_graph::EGraph;
-use slotted_instances::{lookup_rec_expr, pattern_subst, subst_with, union_instantiations};
 use slotted_patterns::Pattern;
 use slotted_rule_patterns::Subst;
-use slotted_rules::{Always, Cond, ReadsNames, Rewrite, RewriteT, apply_rewrites, are_valid};
+use slotted_rules::{
+    Always, Cond, ReadsNames, Rewrite, RewriteT, apply_rewrites, are_valid, lookup_rec_expr,
+    pattern_subst, subst_with, union_instantiations,
+};
 use slotted_slots::{AppliedId, Error};
 use slotted_small::Small;
 use slotted_terms::expr::RecExpr;

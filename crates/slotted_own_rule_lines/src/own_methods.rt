@@ -2,8 +2,8 @@
 
 use slotted_analyses::Analysis;
 use slotted_graph::EGraph;
-use slotted_instances::OwnSubst;
 use slotted_languages::Language;
+use slotted_rules::OwnSubst;
 use slotted_slots::{AppliedId, Error};
 use std::alloc::Global;
 

@@ -33,10 +33,10 @@ use Rattle.slotted_rules.specs.RuleOrigins.{AreFromRulesOrEdits}
 use Rattle.slotted_rules.specs.Written.{CanBeSearched}
 use Rattle.slotted_rules.specs.WrittenLaws.{valid-later}
 use Rattle.slotted_rules.specs.declared.rewrite.Rewrite.{Rewrite}
-use Rattle.slotted_runs.specs.RunOrigins.{HaveOrigins}
-use Rattle.slotted_runs.specs.Runs.{HasRun}
-use Rattle.slotted_runs.specs.Turning.{Calls, RulesOnce, measures, reading_in}
-use Rattle.slotted_runs.proofs.RunOrigins.{run-origins}
+use Rattle.slotted_rules.specs.RunOrigins.{HaveOrigins}
+use Rattle.slotted_rules.specs.Runs.{HasRun}
+use Rattle.slotted_rules.specs.Turning.{Calls, RulesOnce, measures, reading_in}
+use Rattle.slotted_rules.proofs.RunOrigins.{run-origins}
 use Rattle.slotted_queries.specs.declared.planner.Effort.{Effort}
 use Rattle.slotted_queries.specs.declared.planner.Spent.{Spent}
 use Rattle.slotted_queries.specs.Planning.{FollowsIn, GiveRefused, LeastRefused, RunsRules, State, had_failed, leaves_within, text_refused}

@@ -35,9 +35,9 @@ use Rattle.slotted_graph.specs.LeastTerms.{IsLeastTerm}
 use Rattle.slotted_rules.specs.Counting.{AppliesRule, SearchesRule}
 use Rattle.slotted_rules.specs.RuleOrigins.{AreFromRulesOrEdits}
 use Rattle.slotted_rules.specs.declared.rewrite.Rewrite.{Rewrite}
-use Rattle.slotted_runs.specs.Runs.{HasRun}
-use Rattle.slotted_runs.specs.Seen.{Parts}
-use Rattle.slotted_runs.specs.Turning.{Calls, RulesOnce, measures}
+use Rattle.slotted_rules.specs.Runs.{HasRun}
+use Rattle.slotted_rules.specs.Seen.{Parts}
+use Rattle.slotted_rules.specs.Turning.{Calls, RulesOnce, measures}
 use Rattle.slotted_queries.specs.declared.planner.Effort.{Effort}
 use Rattle.slotted_queries.specs.declared.planner.Plan.{Plan}
 use Rattle.slotted_queries.specs.declared.planner.Spent.{Spent}

@@ -1,5 +1,5 @@
 //! A clock that stands still, so that no limit of time is passed.
-use slotted_runs::Clock;
+use slotted_rules::Clock;
 
 /// The clock that tells 0.
 #[derive(Drop)]

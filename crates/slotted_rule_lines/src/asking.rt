@@ -3,9 +3,9 @@
 use crate::rule_text::read_rule;
 use crate::rules::{Rule, add_rule, apply};
 use slotted_graph::EGraph;
-use slotted_instances::pattern_subst;
 use slotted_rule_patterns::Subst;
 use slotted_rule_patterns::subst::value;
+use slotted_rules::pattern_subst;
 use slotted_slots::{AppliedId, Error};
 use slotted_small::Small;
 use std::alloc::Global;

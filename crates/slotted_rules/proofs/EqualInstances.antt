@@ -17,7 +17,7 @@ use Rattle.slotted_operations.specs.Image.{Image, asserted_in}
 use Rattle.slotted_graph.specs.Extension.{ExtendsTo}
 use Rattle.slotted_graph.specs.States.{IsGraph}
 use Rattle.slotted_graph.proofs.Extending.{extends-itself, extends-takes, extends-then}
-use Rattle.slotted_instances.specs.Methods.{method_of, represented}
+use Rattle.slotted_rules.specs.Methods.{method_of, represented}
 use Rattle.slotted_rules.specs.declared.rewrite.Rewrite.{Rewrite}
 use Rattle.slotted_rules.specs.Counting.{AppliesRule, SearchesRule}
 use Rattle.slotted_rules.specs.EqualInstances.{HasAppliedMatches, HasEqualIds, HasSettledMatches, HaveEqualInstances}

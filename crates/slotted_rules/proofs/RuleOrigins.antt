@@ -13,13 +13,13 @@ use Rattle.slotted_operations.specs.Graph.{Graph}
 use Rattle.slotted_operations.specs.Image.{Image}
 use Rattle.slotted_graph.specs.Extension.{ExtendsTo}
 use Rattle.slotted_graph.proofs.Extending.{extends-itself, extends-takes, extends-then}
-use Rattle.slotted_instances.proofs.InstanceEquations.{stored-length}
+use Rattle.slotted_rules.proofs.InstanceEquations.{stored-length}
 use Rattle.slotted_rules.specs.declared.rewrite.Rewrite.{Rewrite}
 use Rattle.slotted_rules.specs.Applying.{RefusesRules, ThenModifies, apply_refused, search_refused}
 use Rattle.slotted_rules.specs.Counting.{AppliesRule, BreaksRule, CountsAndModifies, CountsRules, SearchesRule, UnitesRule}
 use Rattle.slotted_rules.specs.RuleOrigins.{AreFromRules, AreFromRulesOrEdits, ComesFromEdits, ComesFromRules}
 use Rattle.slotted_rules.specs.declared.counting.RuleCounts.{RuleCounts}
-use Rattle.slotted_rules.proofs.Counted.{applied-keys}
+use Rattle.slotted_rules.proofs.CountedRules.{applied-keys}
 use Rattle.slotted_rules.proofs.Settling.{begins-at, begins-within, comes-wider}
 
 -- an explicit entry that was there before was explicit then

@@ -21,13 +21,13 @@ use Rattle.slotted_graph.specs.Extension.{Begins, ExtendsTo}
 use Rattle.slotted_graph.specs.States.{IsGraph}
 use Rattle.slotted_graph.proofs.Extending.{between-longer, extends-itself, extends-then}
 use Rattle.slotted_rule_patterns.specs.PatternCode.{pattern_in}
-use Rattle.slotted_instances.specs.Filled.{FillsValues}
-use Rattle.slotted_instances.specs.Methods.{method_of, represented}
-use Rattle.slotted_instances.specs.Refusals.{HavePassed}
-use Rattle.slotted_instances.specs.Uniting.{UnitesInstances}
-use Rattle.slotted_instances.proofs.FilledValues.{fills-wider}
-use Rattle.slotted_instances.proofs.InstanceEquations.{stored-length, united-equation, united-fills, united-pairs, united-representatives}
-use Rattle.slotted_instances.proofs.Putting.{representatives-longer}
+use Rattle.slotted_rules.specs.Filled.{FillsValues}
+use Rattle.slotted_rules.specs.Methods.{method_of, represented}
+use Rattle.slotted_rules.specs.Refusals.{HavePassed}
+use Rattle.slotted_rules.specs.Uniting.{UnitesInstances}
+use Rattle.slotted_rules.proofs.FilledValues.{fills-wider}
+use Rattle.slotted_rules.proofs.InstanceEquations.{stored-length, united-equation, united-fills, united-pairs, united-representatives}
+use Rattle.slotted_rules.proofs.Putting.{representatives-longer}
 use Rattle.slotted_rules.specs.Loops.{HasAppliedSome}
 use Rattle.slotted_rules.specs.Rewriting.{AppliesEach, AppliesOne, AreFromRule, BreaksOff, ComesFromRule, HasEntryFor, HasEquationFor, IsEquationFor, IsRefusedRewrite, IsSettled, LeavesUnited, RefusesOne, asserts, next_answer, no_answer, passes_over}
 

@@ -10,7 +10,7 @@ use Rattle.slotted_rule_patterns.specs.PatternCode.{pattern_in}
 use Rattle.slotted_rule_patterns.specs.Variables.{first_lacking, first_missing}
 use Rattle.slotted_rule_patterns.proofs.KnownVariables.{missing-lacking}
 use Rattle.slotted_operations.specs.Graph.{Graph}
-use Rattle.slotted_instances.specs.Refusals.{HavePassed}
+use Rattle.slotted_rules.specs.Refusals.{HavePassed}
 
 -- both sides of a rule are whole, its right side lacks no variable of the left, and these have values
 pub ok-passed : {A E : Type 0} (s : Values) (p q : PatternTree) (r : Result A E) → IsSome (pattern_in p) → IsSome (pattern_in q) → first_missing p s ≡ None → first_lacking q p ≡ None → OnOk r (HavePassed s p q)

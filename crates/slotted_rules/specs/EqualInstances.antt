@@ -18,8 +18,8 @@ use Rattle.slotted_operations.specs.Graph.{Graph}
 use Rattle.slotted_operations.specs.Image.{asserted_in}
 use Rattle.slotted_graph.specs.declared.method.SubstMethod.{SubstMethod}
 use Rattle.slotted_graph.specs.Extension.{ExtendsTo}
-use Rattle.slotted_instances.specs.Filled.{FillsValues}
-use Rattle.slotted_instances.specs.Methods.{AreRepresentatives, method_of, represented}
+use Rattle.slotted_rules.specs.Filled.{FillsValues}
+use Rattle.slotted_rules.specs.Methods.{AreRepresentatives, method_of, represented}
 use Rattle.slotted_rules.specs.Rewriting.{IsSearched, IsSettled}
 
 pub record HasEqualIds (R : DTerm → DTerm → Bool) (given : List ℕ) (h : Graph) (rule : Rule) (s : Values) : Type 0 where

@@ -34,10 +34,10 @@ use Rattle.slotted_graph.specs.declared.method.SubstMethod.{SubstMethod}
 use Rattle.slotted_graph.specs.Extension.{ExtendsTo, IsBetween}
 use Rattle.slotted_graph.specs.Matching.{AreFoundValid, FindsAll, FindsAllOf, FindsEachOf, FindsLookedUp, HasWideRow}
 use Rattle.slotted_graph.specs.States.{IsGraph}
-use Rattle.slotted_instances.specs.Filled.{FillsValues}
-use Rattle.slotted_instances.specs.Methods.{AreRepresentatives, method_of, represented}
-use Rattle.slotted_instances.specs.Refusals.{HavePassed}
-use Rattle.slotted_instances.specs.Uniting.{UnitesInstances}
+use Rattle.slotted_rules.specs.Filled.{FillsValues}
+use Rattle.slotted_rules.specs.Methods.{AreRepresentatives, method_of, represented}
+use Rattle.slotted_rules.specs.Refusals.{HavePassed}
+use Rattle.slotted_rules.specs.Uniting.{UnitesInstances}
 
 -- all that the matcher finds over the filed nodes is found; each answer makes the pattern one that is looked up; and where no class has dropped a slot,
 -- each substitution that is looked up is found. Names are those of the pattern, or fresh ones, of which no more are made than answers have names

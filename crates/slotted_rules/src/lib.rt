@@ -1,29 +1,75 @@
 //! Rules: what is searched for, under which condition, and what becomes equal to it.
+//!
+//! The crate also builds instances of patterns, and runs rules in turns until a hook, a limit or saturation stops them.
 #![tactic(auto)]
 
+mod adding;
 pub mod applying;
 pub mod asking;
+pub mod backoff;
+mod building;
+pub(crate) mod calling;
+pub mod clock;
 pub mod condition;
 pub mod condition_tree;
+pub mod counted;
 pub mod counting;
 pub mod data;
+pub mod eqsat;
 pub mod failing;
+mod filling;
+pub mod hook;
+pub mod instances;
+pub mod iteration;
+pub mod limits;
+pub mod looking_up;
+pub mod machine;
 pub mod macros;
+pub mod method;
 mod modifying;
+mod over;
 pub mod reading;
+mod refusals;
+pub mod report;
+pub(crate) mod reporting;
 pub mod rewrite;
 pub mod rule;
+pub(crate) mod run;
+pub mod runner;
+pub(crate) mod running;
 pub mod searching;
+mod stored;
+pub mod substituting;
+mod substitution;
+pub(crate) mod turning;
+pub mod uniting;
+pub mod with_method;
 pub mod written;
 
 pub use applying::{apply_rewrites, are_valid};
 pub use asking::{and, not, or, slot_free_in};
+pub use backoff::{Backoff, are_resting};
+pub use clock::Clock;
 pub use condition::{Always, And, Cond, Not, Or, SlotFreeIn};
 pub use condition_tree::CondTree;
+pub use counted::run_counted;
 pub use counting::{RuleCounts, TurnCounts, apply_counted};
 pub use data::{DataPasses, DataTest};
+pub use eqsat::run_eqsat;
+pub use hook::{Hook, HookStop, NoHook};
+pub use instances::pattern_subst;
+pub use iteration::{Iteration, IterationData};
+pub use limits::RunnerLimits;
+pub use looking_up::lookup_rec_expr;
+pub use machine::MachineClock;
+pub use method::OwnSubst;
 pub use reading::{ReadsNames, has_slot_in};
+pub use report::{Report, RunnerResult, StopReason};
 pub use rewrite::Rewrite;
 pub use rule::RewriteT;
+pub use runner::Runner;
 pub use searching::ematch_all;
+pub use substituting::subst_ids;
+pub use uniting::{union_instantiations, union_tested};
+pub use with_method::subst_with;
 pub use written::apply_matches;

@@ -1,8 +1,6 @@
 //! Counts of a rule in each turn, and a rule that rests.
-use slotted_backoff::Backoff;
 use slotted_graph::EGraph;
-use slotted_rules::{Always, Rewrite, TurnCounts, apply_rewrites, are_valid};
-use slotted_runs::run_counted;
+use slotted_rules::{Always, Backoff, Rewrite, TurnCounts, apply_rewrites, are_valid, run_counted};
 use slotted_slots::{Error, SlotTable};
 use slotted_small::Small;
 use std::alloc::Global;

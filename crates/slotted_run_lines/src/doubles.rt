@@ -3,7 +3,7 @@ ghost use Rattle.std.specs.Prelude.{◌≡◌, ⊤};
 
 use slotted_analyses::Analysis;
 use slotted_graph::EGraph;
-use slotted_runs::{Clock, Hook, HookStop};
+use slotted_rules::{Clock, Hook, HookStop};
 use slotted_slots::Error;
 use slotted_small::Small;
 use std::alloc::Global;

@@ -2,7 +2,7 @@
 use crate::counting::Counting;
 use crate::doubles::{Enough, Times};
 use slotted_graph::EGraph;
-use slotted_runs::{Hook, NoHook, Report, Runner, run_eqsat};
+use slotted_rules::{Hook, NoHook, Report, Runner, run_eqsat};
 use slotted_slots::{Error, SlotTable};
 use slotted_small::Small;
 use std::alloc::Global;

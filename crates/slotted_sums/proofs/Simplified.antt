@@ -34,11 +34,11 @@ use Rattle.slotted_rules.specs.RuleOrigins.{AreFromRulesOrEdits}
 use Rattle.slotted_rules.specs.Written.{CanBeSearched}
 use Rattle.slotted_rules.specs.WrittenLaws.{valid-later}
 use Rattle.slotted_rules.specs.declared.rewrite.Rewrite.{Rewrite}
-use Rattle.slotted_runs.specs.RunOrigins.{HaveOrigins}
-use Rattle.slotted_runs.specs.Runs.{HasRun}
-use Rattle.slotted_runs.specs.Turning.{Calls, RulesOnce, measures, reading_in}
-use Rattle.slotted_runs.specs.declared.hook.NoHook.{NoHook}
-use Rattle.slotted_runs.proofs.RunOrigins.{run-origins}
+use Rattle.slotted_rules.specs.RunOrigins.{HaveOrigins}
+use Rattle.slotted_rules.specs.Runs.{HasRun}
+use Rattle.slotted_rules.specs.Turning.{Calls, RulesOnce, measures, reading_in}
+use Rattle.slotted_rules.specs.declared.hook.NoHook.{NoHook}
+use Rattle.slotted_rules.proofs.RunOrigins.{run-origins}
 use Rattle.slotted_sums.specs.Simplifying.{FollowsIn, GiveRefused, LeastRefused, RunsRules, State, had_failed, leaves_all, text_refused}
 
 -- where an answer was given the graph had not failed, and where it had not, a refusal is another one

@@ -34,10 +34,10 @@ use Rattle.slotted_graph.specs.LeastTerms.{IsLeastTerm}
 use Rattle.slotted_rules.specs.Counting.{AppliesRule, SearchesRule}
 use Rattle.slotted_rules.specs.RuleOrigins.{AreFromRulesOrEdits}
 use Rattle.slotted_rules.specs.declared.rewrite.Rewrite.{Rewrite}
-use Rattle.slotted_runs.specs.Runs.{HasRun}
-use Rattle.slotted_runs.specs.Seen.{Parts}
-use Rattle.slotted_runs.specs.Turning.{Calls, RulesOnce, measures}
-use Rattle.slotted_runs.specs.declared.hook.NoHook.{NoHook}
+use Rattle.slotted_rules.specs.Runs.{HasRun}
+use Rattle.slotted_rules.specs.Seen.{Parts}
+use Rattle.slotted_rules.specs.Turning.{Calls, RulesOnce, measures}
+use Rattle.slotted_rules.specs.declared.hook.NoHook.{NoHook}
 use Rattle.slotted_sums.specs.declared.simplifier.Simplified.{Simplified}
 
 -- what a runner is that has no hook and keeps nothing of its turns

@@ -9,7 +9,7 @@ ghost use Rattle.slotted_theory.specs.Term.{Term};
 ghost use Rattle.slotted_rules.specs.Applying.{AreModified, AreRefusedBy};
 ghost use Rattle.slotted_rules.specs.Counting.{RefusesRule};
 ghost use Rattle.slotted_rules.specs.Written.{CanBeSearched};
-ghost use Rattle.slotted_runs.specs.Seen.{parts_of};
+ghost use Rattle.slotted_rules.specs.Seen.{parts_of};
 ghost use Rattle.slotted_sums.specs.Simplifying.{FindsLeast, Gives, GiveRefused, LeastRefused, RunsRules, Simplifies};
 ghost use Rattle.slotted_sums.specs.Simplifying.{SimplifyRefused};
 
@@ -18,8 +18,7 @@ use slotted_costs::CostFunction;
 use slotted_extract::extract_by;
 use slotted_graph::EGraph;
 use slotted_languages::Language;
-use slotted_rules::{Cond, Rewrite};
-use slotted_runs::{Clock, NoHook, Runner};
+use slotted_rules::{Clock, Cond, NoHook, Rewrite, Runner};
 use slotted_slots::{AppliedId, Error};
 use slotted_terms::expr::printing::Printable;
 use std::alloc::Global;

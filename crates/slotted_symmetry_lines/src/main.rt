@@ -11,12 +11,13 @@
 //! title. Both are written as they stand.
 #![tactic(auto)]
 
-use slotted_deciding::{Explained, Verdict, decide, decided_eq, decided_explain};
+use slotted_deciding::{
+    Explained, Verdict, decide, decided_eq, decided_explain, is_equal_up_to_symmetries,
+};
 use slotted_explain::Explanation;
 use slotted_graph::EGraph;
 use slotted_slots::{AppliedId, Error, SlotTable};
 use slotted_small::Small;
-use slotted_symmetries::is_equal_up_to_symmetries;
 use std::alloc::Global;
 use std::io;
 use std::io::ErrorKind;

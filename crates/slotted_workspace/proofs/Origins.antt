@@ -12,10 +12,10 @@ use Rattle.slotted_rules.specs.TreeAnswers.{AnswersTree}
 use Rattle.slotted_rules.specs.declared.condition_tree.CondTree.{CondTree}
 use Rattle.slotted_rules.specs.declared.rewrite.Rewrite.{Rewrite}
 use Rattle.slotted_rules.proofs.Modified.{never-changed}
-use Rattle.slotted_runs.specs.Eqsat.{counts_of, report_of}
-use Rattle.slotted_runs.specs.Turning.{reading_in}
-use Rattle.slotted_runs.specs.declared.report.Report.{Report}
-use Rattle.slotted_runs.proofs.RunOrigins.{eqsat-origins, rules-alone}
+use Rattle.slotted_rules.specs.Eqsat.{counts_of, report_of}
+use Rattle.slotted_rules.specs.Turning.{reading_in}
+use Rattle.slotted_rules.specs.declared.report.Report.{Report}
+use Rattle.slotted_rules.proofs.RunOrigins.{eqsat-origins, rules-alone}
 use Rattle.slotted_workspace.specs.Runs.{HasRun, OfRules, StopsPast, endless, leaves_by}
 use Rattle.slotted_workspace.specs.Spaces.{Space}
 use Rattle.slotted_workspace.specs.declared.running.Limits.{Limits}

@@ -15,9 +15,9 @@ use Rattle.slotted_rules.specs.Counting.{RefusesRule}
 use Rattle.slotted_rules.specs.TreeAnswers.{TreeRefuses}
 use Rattle.slotted_rules.specs.declared.condition_tree.CondTree.{CondTree}
 use Rattle.slotted_rules.specs.declared.rewrite.Rewrite.{Rewrite}
-use Rattle.slotted_runs.specs.Eqsat.{HasEqsatReported, HasRefusedEqsat}
-use Rattle.slotted_runs.specs.Turning.{Calls, RulesOnce}
-use Rattle.slotted_runs.specs.declared.report.Report.{Report}
+use Rattle.slotted_rules.specs.Eqsat.{HasEqsatReported, HasRefusedEqsat}
+use Rattle.slotted_rules.specs.Turning.{Calls, RulesOnce}
+use Rattle.slotted_rules.specs.declared.report.Report.{Report}
 use Rattle.slotted_commands.proofs.Steps.{not_true, sound_graph}
 use Rattle.slotted_workspace.specs.Runs.{RunAnswers, RunRefused, TellsZero, applies_by, endless, leaves_by, refuses_by, searches_by}
 use Rattle.slotted_workspace.specs.declared.running.NoClock.{NoClock}

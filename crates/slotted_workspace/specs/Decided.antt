@@ -30,7 +30,7 @@ use Rattle.slotted_rules.specs.RuleOrigins.{AreFromRules}
 use Rattle.slotted_rules.specs.TreeAnswers.{AnswersTree, TreeRefuses}
 use Rattle.slotted_rules.specs.declared.condition_tree.CondTree.{CondTree}
 use Rattle.slotted_rules.specs.declared.rewrite.Rewrite.{Rewrite}
-use Rattle.slotted_symmetries.specs.Equality.{IsDecidedGraph}
+use Rattle.slotted_deciding.specs.Equality.{IsDecidedGraph}
 use Rattle.slotted_deciding.specs.Asking.{IsProved}
 use Rattle.slotted_deciding.specs.Steps.{CanRefuse, GoesTo}
 use Rattle.slotted_deciding.specs.declared.asking.Verdict.{Verdict}

@@ -20,9 +20,9 @@ use Rattle.slotted_rules.specs.Counting.{AppliesRule, BreaksRule, RefusesRule, S
 use Rattle.slotted_rules.specs.TreeAnswers.{AnswersTree, TreeRefuses}
 use Rattle.slotted_rules.specs.declared.condition_tree.CondTree.{CondTree}
 use Rattle.slotted_rules.specs.declared.rewrite.Rewrite.{Rewrite}
-use Rattle.slotted_runs.specs.Eqsat.{HasEqsatReported, HasRefusedEqsat}
-use Rattle.slotted_runs.specs.Turning.{Calls, RefusesTurn, RulesOnce}
-use Rattle.slotted_runs.specs.declared.report.Report.{Report}
+use Rattle.slotted_rules.specs.Eqsat.{HasEqsatReported, HasRefusedEqsat}
+use Rattle.slotted_rules.specs.Turning.{Calls, RefusesTurn, RulesOnce}
+use Rattle.slotted_rules.specs.declared.report.Report.{Report}
 use Rattle.slotted_workspace.specs.Asked.{HadFailed}
 use Rattle.slotted_workspace.specs.Spaces.{Space, rule_of}
 use Rattle.slotted_workspace.specs.declared.running.NoClock.{NoClock}

@@ -9,9 +9,9 @@ use Rattle.slotted_rules.specs.RuleOrigins.{AreFromRules}
 use Rattle.slotted_rules.specs.TreeAnswers.{AnswersTree}
 use Rattle.slotted_rules.specs.declared.condition_tree.CondTree.{CondTree}
 use Rattle.slotted_rules.specs.declared.rewrite.Rewrite.{Rewrite}
-use Rattle.slotted_runs.specs.declared.report.Report.{Report}
-use Rattle.slotted_runs.specs.declared.report.StopReason.{StopReason}
-use Rattle.slotted_runs.specs.declared.report.StopReason.TheVariants.{Saturated, IterationLimit, TimeLimit, NodeLimit, Other}
+use Rattle.slotted_rules.specs.declared.report.Report.{Report}
+use Rattle.slotted_rules.specs.declared.report.StopReason.{StopReason}
+use Rattle.slotted_rules.specs.declared.report.StopReason.TheVariants.{Saturated, IterationLimit, TimeLimit, NodeLimit, Other}
 use Rattle.slotted_workspace.specs.Runs.{HasRun, OfRules}
 use Rattle.slotted_workspace.specs.Spaces.{Space}
 use Rattle.slotted_workspace.specs.declared.running.Limits.{Limits}

@@ -12,9 +12,8 @@ ghost use Rattle.slotted_workspace.specs.Keeping.{IsKept};
 
 use crate::kept::Kept;
 use slotted_costs::CostFunction;
-use slotted_decided::extract_decided;
+use slotted_decided::{extract_by, extract_decided};
 use slotted_explain::EGraph;
-use slotted_extract::extract_by;
 use slotted_slots::Error;
 use slotted_terms::expr::printing::Printable;
 use std::alloc::Global;

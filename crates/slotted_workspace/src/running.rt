@@ -8,8 +8,7 @@ ghost use Rattle.slotted_workspace.specs.Saturating as saturating;
 use slotted_analyses::Analysis;
 use slotted_explain::EGraph;
 use slotted_languages::Language;
-use slotted_rules::{CondTree, Rewrite};
-use slotted_runs::{Clock, Hook, HookStop, Report, StopReason, run_eqsat};
+use slotted_rules::{Clock, CondTree, Hook, HookStop, Report, Rewrite, StopReason, run_eqsat};
 use slotted_slots::Error;
 use std::alloc::Global;
 

@@ -7,15 +7,15 @@ ghost use Rattle.slotted_costs.specs.Costs.{costs_by, MayRefuse};
 ghost use Rattle.slotted_proofs.specs.Equations.{to_applied};
 ghost use Rattle.slotted_operations.specs.Graph.{OnlyTakesSlots};
 ghost use Rattle.slotted_operations.specs.ValidIds.{IsValidId};
-ghost use Rattle.slotted_least_terms.specs.Terms.{IsFreshTerm};
+ghost use Rattle.slotted_graph.specs.Terms.{IsFreshTerm};
 ghost use Rattle.slotted_graph.specs.LeastTerms.{AreChosenOf, AreLeastOf, HasEachLiveClass, IsExtracted, IsMadeOf};
 ghost use Rattle.slotted_graph.specs.LeastTerms.{LacksEntry, MakesForExtracted, RunsOutForExtracted};
 
 use super::EGraph;
+use crate::{LeastTerms, extracting, terms};
 use slotted_analyses::Analysis;
 use slotted_costs::CostFunction;
 use slotted_languages::Language;
-use slotted_least_terms::{LeastTerms, extracting, terms};
 use slotted_slots::{AppliedId, Error};
 use slotted_terms::expr::RecExpr;
 

@@ -6,7 +6,7 @@ use Rattle.slotted_graph.proofs.Insides.{given}
 use Rattle.slotted_rules.specs.Applying.{AreModified, AreRefusedBy}
 use Rattle.slotted_rules.specs.Counting.{RefusesRule}
 use Rattle.slotted_rules.specs.WrittenLaws.{valid-later}
-use Rattle.slotted_rules.proofs.Counted.{no-rule_fails}
+use Rattle.slotted_rules.proofs.CountedRules.{no-rule_fails}
 use Rattle.slotted_slots.specs.declared.error.Error.TheVariants.{Failed}
 use Rattle.slotted_deciding.specs.Steps.{CanRefuse}
 use Rattle.slotted_deciding.proofs.Refusals.{so-well}

@@ -2,7 +2,7 @@
 use Rattle.std.proofs.Common.{◌≡◌, ◌-◌, ◌≤◌, false, length}
 use Rattle.slotted_graph.specs.Analysed.{LowersData}
 use Rattle.slotted_graph.specs.Extension.{ExtendsTo}
-use Rattle.slotted_symmetries.specs.Equality.{IsDecidedGraph}
+use Rattle.slotted_deciding.specs.Equality.{IsDecidedGraph}
 use Rattle.slotted_rules.specs.Applying.{AreModified}
 use Rattle.slotted_decided.specs.Turns.{GoesDecided}
 use Rattle.slotted_decided.proofs.running.take_turns.Given as goal

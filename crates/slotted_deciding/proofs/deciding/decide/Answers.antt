@@ -1,7 +1,7 @@
 use Rattle.std.proofs.Common.{◌∙◌, inr, sym}
 use Rattle.std.specs.Prelude.{IsTrue}
 use Rattle.slotted_graph.proofs.Insides.{given}
-use Rattle.slotted_symmetries.specs.Equality.{IsDecidedGraph}
+use Rattle.slotted_deciding.specs.Equality.{IsDecidedGraph}
 use Rattle.slotted_deciding.proofs.NoSymmetry.{decided-without, none-listed}
 use Rattle.slotted_deciding.proofs.Refusals.{left-fails, left-goes, left-holds, left-ok}
 use Rattle.slotted_graph.specs.Analysed.{LowersData}

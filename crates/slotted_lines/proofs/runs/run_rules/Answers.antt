@@ -1,5 +1,5 @@
 use Rattle.std.proofs.Common.{ap}
-use Rattle.slotted_runs.specs.Seen.{parts_of}
+use Rattle.slotted_rules.specs.Seen.{parts_of}
 use Rattle.slotted_lines.specs.RunsOver.{RunnerState}
 use Rattle.slotted_lines.proofs.Running.{run-answered-by, run-keeps-by, run-needs, starts-over}
 use Rattle.slotted_lines.proofs.runs.run_rules.Goals as goal

@@ -2,7 +2,7 @@
 use Rattle.std.proofs.Common.{◌≡◌, false, inl, inr}
 use Rattle.std.proofs.lemmas.Result.{on_ok_weaker}
 use Rattle.slotted_graph.proofs.Extending.{extends-then}
-use Rattle.slotted_instances.proofs.Answering.{if-err-mapped}
+use Rattle.slotted_rules.proofs.Answering.{if-err-mapped}
 use Rattle.slotted_rules.proofs.Lowering.{later-lowers}
 use Rattle.slotted_rules.proofs.AppliedRules.{not-failed-so, ok-well}
 use Rattle.slotted_rules.proofs.applying.apply_and_modify.Goals as goal

@@ -2,7 +2,7 @@ use Rattle.std.specs.Prelude.{◌⊎◌}
 use Rattle.std.proofs.Common.{◌≡◌, false, inl, inr, Result, IfErr, subst}
 use Rattle.slotted_graph.proofs.Extending.{extends-then}
 use Rattle.slotted_rules.specs.Applying.{RefusesRules, StopsSearching, apply_refused, search_refused}
-use Rattle.slotted_instances.proofs.Answering.{if-err-mapped}
+use Rattle.slotted_rules.proofs.Answering.{if-err-mapped}
 use Rattle.slotted_languages.proofs.HandedOn.{handed_err}
 use Rattle.slotted_slots.specs.declared.error.Error.{Error}
 use Rattle.slotted_slots.specs.Error.{IsShortage}

@@ -5,7 +5,7 @@ use Rattle.slotted_graph.specs.Extension.{ExtendsTo}
 use Rattle.slotted_rules.specs.Applying.{AreRefusedBy, HasProgressed}
 use Rattle.slotted_rules.specs.Counting.{RefusesCounted, RefusesRule}
 use Rattle.slotted_graph.specs.Analysed.{LowersData}
-use Rattle.slotted_rules.proofs.Counted.{no-rule_fails}
+use Rattle.slotted_rules.proofs.CountedRules.{no-rule_fails}
 use Rattle.slotted_rules.proofs.LeftGraphs.{left-err, left-failed, left-fails, left-ok, left-so}
 use Rattle.slotted_rules.proofs.counting.apply_counted.Goals as goal
 

@@ -16,7 +16,7 @@ use Rattle.slotted_patterns.specs.View.{tree_of}
 use Rattle.slotted_graph.proofs.Saying.{lowers-itself}
 use Rattle.slotted_rules.proofs.Lowering.{later-lowers}
 use Rattle.slotted_rules.proofs.AppliedRules.{applying-stops, not-failed, not-failed-so, ok-well, refused-one, shortage_of}
-use Rattle.slotted_rules.proofs.Counted.{applied-keys, counts-more, done-can, done-more, done-whole, none-done}
+use Rattle.slotted_rules.proofs.CountedRules.{applied-keys, counts-more, done-can, done-more, done-whole, none-done}
 use Rattle.slotted_rules.proofs.counting.count_all.Goals as goal
 
 popped : {F : Type 0} (old new : List F) (o : Option F) (x : F) → old ≡ option_to_list o ++ new → o ≡ Some x → old ≡ x ∷ new

@@ -3,7 +3,7 @@ use Rattle.std.specs.Prelude.{slice_index_or}
 use Rattle.std.proofs.lemmas.List.Elements.{Contains-get_or}
 use Rattle.slotted_model_rules.specs.Conditions.{Values}
 use Rattle.slotted_graph.specs.Matching.{AreValidValues}
-use Rattle.slotted_instances.proofs.Carrying.{carries-itself}
+use Rattle.slotted_rules.proofs.Carrying.{carries-itself}
 use Rattle.slotted_rules.proofs.written.apply_answer.Goals as goal
 
 pub apply_to-requires-clause-valid : goal.apply_to-requires-clause-valid

@@ -7,7 +7,7 @@ use Rattle.slotted_operations.specs.Graph.{Graph}
 use Rattle.slotted_rules.specs.Loops.{HasAppliedSome}
 use Rattle.slotted_rules.specs.Rewriting.{AreFromRule, BreaksOff, IsRefusedRewrite}
 use Rattle.slotted_rules.specs.WrittenLaws.{apply-later, valid-later}
-use Rattle.slotted_instances.proofs.Carrying.{carries-itself, carries-on, later-carries}
+use Rattle.slotted_rules.proofs.Carrying.{carries-itself, carries-on, later-carries}
 use Rattle.slotted_languages.proofs.HandedOn.{handed_err}
 use Rattle.slotted_slots.specs.Error.{IsShortage}
 use Rattle.slotted_rules.proofs.AppliedRules.{ok-well}

@@ -1,7 +1,7 @@
 -- the answers so far are settled
 use Rattle.std.specs.Prelude.{string_bytes}
 use Rattle.slotted_patterns.specs.View.{tree_of}
-use Rattle.slotted_instances.specs.Carried.{CarriesAlong}
+use Rattle.slotted_rules.specs.Carried.{CarriesAlong}
 use Rattle.slotted_rules.specs.Loops.{HasAppliedSome}
 use Rattle.slotted_rules.proofs.written.apply_found.Given as goal
 

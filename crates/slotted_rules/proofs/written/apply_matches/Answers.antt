@@ -1,7 +1,7 @@
 use Rattle.std.specs.Prelude.{string_bytes}
 use Rattle.slotted_patterns.specs.View.{tree_of}
 use Rattle.slotted_rules.specs.Rewriting.{AreFromRule, BreaksOff}
-use Rattle.slotted_instances.specs.Carried.{CarriesAlong}
+use Rattle.slotted_rules.specs.Carried.{CarriesAlong}
 use Rattle.slotted_rules.proofs.LeftGraphs.{left-so, left-err}
 use Rattle.slotted_rules.proofs.written.apply_matches.Goals as goal
 

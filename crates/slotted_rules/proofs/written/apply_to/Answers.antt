@@ -4,8 +4,8 @@ use Rattle.slotted_patterns.specs.Tree.{PatternTree}
 use Rattle.slotted_patterns.specs.View.{tree_of}
 use Rattle.slotted_rule_patterns.specs.Values.{values_of}
 use Rattle.std.specs.Prelude.{string_bytes}
-use Rattle.slotted_instances.proofs.Carrying.{carries-itself}
-use Rattle.slotted_instances.proofs.Answering.{if-err-mapped}
+use Rattle.slotted_rules.proofs.Carrying.{carries-itself}
+use Rattle.slotted_rules.proofs.Answering.{if-err-mapped}
 use Rattle.slotted_rule_patterns.specs.PatternCode.{pattern_in}
 use Rattle.slotted_rules.proofs.Settling.{if-asserted}
 use Rattle.slotted_rules.proofs.UnitedAnswers.{none-of}

@@ -4,7 +4,7 @@ use Rattle.std.specs.Prelude.{slice_index_or}
 use Rattle.slotted_patterns.specs.View.{tree_of}
 use Rattle.slotted_rule_patterns.specs.Values.{values_of}
 use Rattle.slotted_rule_patterns.proofs.KnownVariables.{missing-lacking}
-use Rattle.slotted_instances.proofs.Carrying.{carries-itself}
+use Rattle.slotted_rules.proofs.Carrying.{carries-itself}
 use Rattle.slotted_rules.proofs.UnitedAnswers.{ok-passed, short-fails}
 use Rattle.slotted_rules.proofs.written.unite.Goals as goal
 

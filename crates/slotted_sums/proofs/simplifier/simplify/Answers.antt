@@ -9,7 +9,7 @@ use Rattle.slotted_graph.proofs.Extending.{extends-then, full-extends}
 use Rattle.slotted_rules.specs.Applying.{AreModified}
 use Rattle.slotted_rules.proofs.AppliedRules.{not-failed-so, ok-well}
 use Rattle.slotted_rules.proofs.Modified.{modified-extends}
-use Rattle.slotted_runs.specs.Seen.{parts_of}
+use Rattle.slotted_rules.specs.Seen.{parts_of}
 use Rattle.slotted_sums.specs.Simplifying.{not_found, not_given, not_run}
 use Rattle.slotted_sums.proofs.Simplified.{best-follows, best-no-larger, can-search, grown-then, other-refusal, run-refused, runs-rules, stands-later, still-valid, well-refused}
 use Rattle.slotted_sums.proofs.simplifier.simplify.Goals as goal

@@ -13,7 +13,7 @@ use Rattle.slotted_operations.specs.ValidIds.{IsValidId}
 use Rattle.slotted_operations.proofs.Graphs.FreshSlots.{fresh_slots-more}
 use Rattle.slotted_operations.proofs.Graphs.Images.{class_found-is, found_id-is}
 use Rattle.slotted_operations.proofs.Ids.ValidIds.{findable-within, of-valid}
-use Rattle.slotted_least_terms.specs.Terms.{IsFreshTerm, IsMade, RunsOutWith, entry_at, slots_for}
+use Rattle.slotted_graph.specs.Terms.{IsFreshTerm, IsMade, RunsOutWith, entry_at, slots_for}
 use Rattle.slotted_graph.specs.LeastTerms.{IsExtracted}
 use Rattle.slotted_graph.proofs.MadeOfEntries.{made-extracted}
 use Rattle.slotted_graph.proofs.Insides.{inside-of, given}

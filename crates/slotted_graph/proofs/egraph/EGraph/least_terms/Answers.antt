@@ -7,8 +7,8 @@ use Rattle.slotted_operations.specs.Graph.{Graph}
 use Rattle.slotted_model.specs.Find.{find_class}
 use Rattle.slotted_classes.specs.Kept.{entries_of}
 use Rattle.slotted_hashcons.specs.FiledRows.{rows_in}
-use Rattle.slotted_least_terms.specs.Chosen.{AreChosen}
-use Rattle.slotted_least_terms.specs.Least.{AreLeast}
+use Rattle.slotted_graph.specs.Chosen.{AreChosen}
+use Rattle.slotted_graph.specs.Least.{AreLeast}
 use Rattle.slotted_graph.specs.LeastTerms.{AreChosenOf, HasEachLiveClass}
 use Rattle.slotted_graph.proofs.MadeOfEntries.{seen-chosen, seen-each}
 use Rattle.slotted_graph.proofs.Insides.{inside-of}

@@ -4,7 +4,7 @@ use Rattle.slotted_proofs.specs.Equations.{to_applied}
 use Rattle.slotted_graph.specs.Extension.{ExtendsTo}
 use Rattle.slotted_graph.proofs.CallerLemmas.{full-valid}
 use Rattle.slotted_graph.proofs.Extending.{extends-united}
-use Rattle.slotted_instances.proofs.Carrying.{carried-along, carries-for}
+use Rattle.slotted_rules.proofs.Carrying.{carried-along, carries-for}
 use Rattle.slotted_own_rule_lines.proofs.own_methods.AssertingOwnSubst.subst.Goals as goal
 
 pub union_quietly-requires-clause-left : goal.union_quietly-requires-clause-left

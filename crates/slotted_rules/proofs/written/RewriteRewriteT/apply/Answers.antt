@@ -1,4 +1,4 @@
-use Rattle.slotted_instances.proofs.Carrying.{failed-or-lowers}
+use Rattle.slotted_rules.proofs.Carrying.{failed-or-lowers}
 use Rattle.slotted_rules.proofs.written.RewriteRewriteT.apply.Goals as goal
 
 pub returns-in_err-apply_matches-clause-lowers : goal.returns-in_err-apply_matches-clause-lowers

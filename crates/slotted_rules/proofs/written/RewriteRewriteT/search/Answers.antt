@@ -1,6 +1,6 @@
 use Rattle.std.proofs.Common.{inr}
 use Rattle.slotted_graph.proofs.Extending.{extends-takes}
-use Rattle.slotted_instances.proofs.Carrying.{carries-takes}
+use Rattle.slotted_rules.proofs.Carrying.{carries-takes}
 use Rattle.slotted_rules.proofs.written.RewriteRewriteT.search.Goals as goal
 
 pub returns-clause-extends : goal.returns-clause-extends

@@ -1,2 +1,0 @@
--- What is said of rules that rest.
-pub mod Resting

@@ -1,0 +1,19 @@
+-- the turns so far each changed the progress measure
+use Rattle.std.proofs.Common.{◌≡◌, ◌-◌, ◌≤◌, false, length}
+use Rattle.slotted_graph.specs.Analysed.{LowersData}
+use Rattle.slotted_graph.specs.Extension.{ExtendsTo}
+use Rattle.slotted_rules.specs.Applying.{AreModified}
+use Rattle.slotted_rules.specs.Counted.{GoesOn}
+use Rattle.slotted_rules.proofs.counted.take_counted.Given as goal
+
+abbrev pub invariant-loop-alloc : goal.invariant-loop-alloc
+invariant-loop-alloc g l = record {
+  well : l.graph.failed ≡ false;
+  extends : ExtendsTo l.fn.graph l.graph;
+  lowers : LowersData g.N.Analysis.codes g.N.Analysis.meaning l.fn.graph l.graph;
+  within : length l.turns.items ≤ l.turn_limit;
+  turns : GoesOn g.L.LanguageChildren.form g.C.Cond.answers l.rules (AreModified g.N.Analysis.codes g.N.Analysis.meaning g.N.Analysis.may_ask g.N.Analysis.modifies) l.fn.graph l.turns.items l.graph;
+}
+
+abbrev pub decreases-loop-alloc : goal.decreases-loop-alloc
+decreases-loop-alloc g l = l.turn_limit - length l.turns.items
