@@ -1,56 +1,56 @@
-//! The program `slotted_run_lines`: runs in, reports out.
+//! The program `slotted_run_lines`: parts of lines in, answers out.
 //!
-//! Each line is a word with what it is asked of. It is written as it stands, then an arrow, then the answer or the name
-//! of the error. An empty line and a line that begins with `#` are written as they stand.
-//!
-//! - `runner M T N D: CLOCK` reports of a runner under one rule, which adds an e-node in each turn as long as there are
-//!   fewer than M. The limits of turns, e-nodes and time are T, N and D, or the usual ones for `-`. The clock tells the
-//!   numbers, and then 0. `hook K M T N D: CLOCK` is the same with a hook that stops the run after K turns.
-//! - `resumed M T U: CLOCK` is the same with T for the limit of turns, and again after the runner was let go on with U.
-//! - `eqsat M T S: CLOCK` reports of a run without a runner, with limits of turns and of seconds.
-//! - `counted T TERM: L => R` tells of each turn, up to T turns, whether the graph changed, how many matches the rule
-//!   had, and how many of them it united. The graph has the term at first.
-//! - `resting N M R TERM: L => R` applies a rule N times. The rule rests for R turns once it has found more than M
-//!   matches. Each time, the line tells whether the graph changed, and whether the rule rests. Then comes the number of
-//!   e-nodes.
+//! A line `=== WORD` begins a part, and is written as it stands. The lines of a part are those of the module of its
+//! word: [`runs`], [`rules`] and [`data`].
 #![tactic(auto)]
 
+mod answers;
+mod asked;
+mod calls;
+mod carried;
 mod counting;
 mod counts;
+mod data;
+mod datum;
 mod doubles;
+mod failed;
+mod graphs;
+mod least_binders;
+mod least_size;
+mod marking;
+mod own_conditions;
+mod own_graphs;
+mod own_methods;
+mod own_rules;
+mod rebuilds;
+mod refusing;
 mod reports;
+mod rules;
+mod runs;
+mod tired;
+mod units;
+mod walking;
 
-use counts::write_counts;
-use reports::write_reports;
-use slotted_slots::Error;
-use std::alloc::Global;
 use std::io;
+use std::io::ErrorKind;
 
-// Writes the answer of a line.
-fn write_answer(alloc: Global, line: &str, text: &mut String) -> Result<(), Error> {
-    let (word, words) = line.split_once(' ').unwrap_or((line, ""));
+// Answers a part, by the word that it begins with.
+fn answer_part(rt: &HostRuntime, part: &str) -> io::Result<()> {
+    let (word, text) = part.split_once("\n").unwrap_or((part, ""));
+    println!(rt; "=== {word}")?;
     match word {
-        "counted" | "resting" => write_counts(alloc, word, words, text),
-        _ => write_reports(alloc, word, words, text),
+        "runs" => runs::answer_all(rt, text),
+        "rules" => rules::answer_all(rt, text),
+        "data" => data::answer_all(rt, text),
+        _ => Err(io::Error::from(ErrorKind::InvalidData)),
     }
-}
-
-// Answers a line.
-fn answer_line(rt: &HostRuntime, line: &str) -> io::Result<()> {
-    let mut text = String::new(rt.alloc());
-    if let Err(error) = write_answer(rt.alloc(), line, &mut text) {
-        text.push_str(error.name())?;
-    }
-    println!(rt; "{line} => {text}")
 }
 
 fn main(rt: HostRuntime) -> io::Result<()> {
-    for line in rt.lines(rt.alloc()) {
-        let line = line?;
-        if line.is_empty() || line.starts_with('#') {
-            println!(&rt; "{line}")?;
-        } else {
-            answer_line(&rt, &line)?;
+    let text = io::read_to_string(rt.alloc(), rt.reader())?;
+    for part in text.split("=== ") {
+        if !part.is_empty() {
+            answer_part(&rt, part)?;
         }
     }
     Ok(())

@@ -1,8 +1,9 @@
 //! The program `slotted_transcripts`: sessions in, answers out.
 //!
 //! A line `---` ends a session, and the next one has a graph and rules of its own. A line that begins with `# ` is a
-//! title. Both are written as they stand, and so is a line `===`. It ends the sessions over `Small`: those behind it are
-//! over `SymbolLang`.
+//! title. Both are written as they stand, and so is a line `===`. The sessions in front of the first one are about
+//! patterns and rules, as [`rule_sessions`] has them. Those behind the second one are over `SymbolLang`, the others over
+//! `Small`.
 //!
 //! A line that begins with `? ` is a question of `slotted_questions`. Each other line is answered as by the program
 //! `slotted`.
@@ -16,7 +17,11 @@ ghost use Rattle.std.specs.List.{starts_with};
 ghost use Rattle.std.specs.Io.BufRead.{strip_last};
 ghost use Rattle.std.specs.Io.KnownBytes.{Appends};
 
+mod asking;
 mod plain;
+mod rule_sessions;
+mod rule_text;
+mod rules;
 
 use crate::plain::PlainFind;
 use slotted_graph::EGraph;
@@ -253,6 +258,7 @@ fn main(rt: HostRuntime) -> io::Result<()> {
     let alloc = rt.alloc();
     let mut input = BufReader::new(alloc, rt.reader())?;
     let mut output = BufWriter::new(alloc, io::writer(&rt))?;
+    rule_sessions::answer_sessions(alloc, &mut input, &mut output)?;
     answer_sessions::<Small, _, _>(alloc, &mut input, &mut output)?;
     answer_sessions::<SymbolLang, _, _>(alloc, &mut input, &mut output)?;
     output.flush()

@@ -1,5 +1,0 @@
-pub mod LeastSize
-pub mod LeastBinders
-pub mod Marking
-pub mod Tired
-pub mod ComesTo

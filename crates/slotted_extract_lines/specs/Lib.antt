@@ -1,3 +1,0 @@
--- Cost functions that are not the size.
-pub mod DearProducts
-pub mod LightLambdas

@@ -1,0 +1,3 @@
+-- Definitions of the parts.
+pub mod DearProducts
+pub mod LightLambdas
