@@ -1,7 +1,7 @@
 //! The program `slotted_graph_lines`: parts of lines in, answers out.
 //!
 //! A line `=== WORD` begins a part, and is written as it stands. The lines of a part are those of the module of its
-//! word: [`refusals`], [`extraction`] and [`symmetries`].
+//! word: [`refusals`], [`extraction`], [`symmetries`] and [`hostile`].
 #![tactic(auto)]
 
 mod asked;
@@ -10,9 +10,13 @@ mod deep;
 mod extracted;
 mod extraction;
 mod failing;
+mod hostile;
+mod lambda;
 mod light_lambdas;
 mod proofs;
 mod refusals;
+mod script;
+mod steps;
 mod symmetries;
 mod walking;
 
@@ -27,6 +31,7 @@ fn answer_part(rt: &HostRuntime, part: &str) -> io::Result<()> {
         "refusals" => refusals::answer_all(rt, text),
         "extraction" => extraction::answer_all(rt, text),
         "symmetries" => symmetries::answer_all(rt, text),
+        "hostile" => hostile::answer_all(rt, text),
         _ => Err(io::Error::from(ErrorKind::InvalidData)),
     }
 }

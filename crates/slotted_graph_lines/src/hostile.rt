@@ -1,4 +1,4 @@
-//! The program `slotted_hostile_lines`: a script over graphs, extraction, rules and runs, in which memory or slots end.
+//! The part `=== hostile`: a script over graphs, extraction, rules and runs, in which memory or slots end.
 //!
 //! Each line tells how the script is run. It is written as it stands, with an arrow and what comes of it behind it. An
 //! empty line and a line that begins with `#` are written as they stand.
@@ -12,14 +12,9 @@
 //!
 //! The answer is `ends`, or the step that was refused first, and whether the graph has failed then. If any step is not
 //! answered or refused as it has to be, the line is written behind `wrong: `, and the program ends with an error.
-#![tactic(auto)]
 
-mod lambda;
-mod script;
-mod steps;
-
-use lambda::lambda_equals_itself;
-use script::{Ending, STEPS, walk_over};
+use crate::lambda::lambda_equals_itself;
+use crate::script::{Ending, STEPS, walk_over};
 use slotted_slots::Error;
 use slotted_small::Small;
 use std::alloc::Global;
@@ -110,13 +105,13 @@ fn answer_line(rt: &HostRuntime, line: &str) -> io::Result<()> {
     }
 }
 
-fn main(rt: HostRuntime) -> io::Result<()> {
-    for line in rt.lines(rt.alloc()) {
-        let line = line?;
+/// Answers this part of the input.
+pub fn answer_all(rt: &HostRuntime, text: &str) -> io::Result<()> {
+    for line in text.lines() {
         if line.is_empty() || line.starts_with('#') {
-            println!(&rt; "{line}")?;
+            println!(rt; "{line}")?;
         } else {
-            answer_line(&rt, &line)?;
+            answer_line(rt, line)?;
         }
     }
     Ok(())
