@@ -85,7 +85,15 @@ module _ {L : Type 0} (g h : Graph) (k l : Kept L) (one : IsKept g k) (two : IsK
       follows h.image k.term l.term (terms-equal h k l later-one later-two (asserted_in h.image) (judged (to_applied k.id) (to_applied l.id) (fills-itself h.image (to_applied k.id) later-one.full.full) (fills-itself h.image (to_applied l.id) later-two.full.full)).0)
   says No judged = never-follows h.image k.term l.term
       (λ e. judged (to_applied k.id) (to_applied l.id) (fills-itself h.image (to_applied k.id) later-one.full.full) (fills-itself h.image (to_applied l.id) later-two.full.full) (of-ids (asserted_in h.image) e))
-  says Open judged = tt
+  says Open judged = record {
+    left = to_applied k.id;
+    right = to_applied l.id;
+    left_full = later-one.full.full;
+    right_full = later-two.full.full;
+    left_term = later-one.term;
+    right_term = later-two.term;
+    apart = judged;
+  }
 
   pub judges : (v : Verdict) → IsJudged h.image (to_applied k.id) (to_applied l.id) v → JudgesTerms g h k.term l.term v
   judges v judged = record { well = well; goes = goes; says = says v judged }

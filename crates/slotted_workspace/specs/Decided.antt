@@ -1,14 +1,14 @@
 -- What calls of a workspace answer that decide symmetries.
 --     NeverFollows g t u          the terms t and u are derivable from no named equations that are the asserted list
 --     DecidesGraph g h y          from g to h nothing is asserted; after a yes the graph is decided
---     JudgesTerms g h t u v       the graph was decided, from g to h; a yes and a no about two terms are right, without exception
---     ProvesTerms written g h t u x      so it was; a yes has a printed proof, and a no is right
+--     JudgesTerms g h t u v       the graph was decided, from g to h; a yes and a no about two terms are right, without exception; else they are not equal up to symmetries
+--     ProvesTerms written g h t u x      so it was; a yes has a printed proof, and a no is right; else they are not equal up to symmetries
 --     DecideRefused g h e         the graph had failed; or memory or slots ran out, or a step did not fit
 --     RunsDecided form rules limits g h r     these rules were run, and the graph was decided after each turn; each new asserted equation comes from one of them
 --     ExtractsDecided written costs g h t x      the graph was decided, from g to h, and x has a term of least cost that follows; after a yes no term that follows costs less
 --     ExtractDecidedRefused ..    such an extraction was refused
 --     DecidedRunRefused ..        such a run was refused
-use Rattle.std.specs.Prelude.{◌≡◌, ◌⊎◌, ⊤, ℕ, Bool, List, Some, false, map, IsTrue, String, string_bytes}
+use Rattle.std.specs.Prelude.{◌≡◌, ◌⊎◌, ℕ, Bool, List, Some, false, map, IsTrue, String, string_bytes}
 use Rattle.slotted_slots.specs.declared.error.Error.{Error}
 use Rattle.slotted_slots.specs.Syntax.{Element}
 use Rattle.slotted_theory.specs.Derives.{Derives, nameless_pair}
@@ -31,7 +31,7 @@ use Rattle.slotted_rules.specs.TreeAnswers.{AnswersTree, TreeRefuses}
 use Rattle.slotted_rules.specs.declared.condition_tree.CondTree.{CondTree}
 use Rattle.slotted_rules.specs.declared.rewrite.Rewrite.{Rewrite}
 use Rattle.slotted_deciding.specs.Equality.{IsDecidedGraph}
-use Rattle.slotted_deciding.specs.Asking.{IsProved}
+use Rattle.slotted_deciding.specs.Asking.{AreApart, IsProved}
 use Rattle.slotted_deciding.specs.Steps.{CanRefuse, GoesTo}
 use Rattle.slotted_deciding.specs.declared.asking.Verdict.{Verdict}
 use Rattle.slotted_deciding.specs.declared.asking.Verdict.TheVariants.{No, Open, Yes}
@@ -49,7 +49,7 @@ NeverFollows g t u = (E : List (Term × Term)) → map nameless_pair E ≡ asser
 abbrev pub SaysOfTerms : Image → Term → Term → Verdict → Type 0
 SaysOfTerms g t u Yes = FollowsIn g t u
 SaysOfTerms g t u No = NeverFollows g t u
-SaysOfTerms g t u Open = ⊤
+SaysOfTerms g t u Open = AreApart g t u
 
 pub record DecidesGraph (g h : Graph) (y : Bool) : Type 0 where
   pub well : g.failed ≡ false
@@ -74,7 +74,7 @@ pub record IsPrintedProof (written : Term → List Element) (g h : Graph) (t u :
 abbrev pub ProvesTerms : (Term → List Element) → Graph → Graph → Term → Term → ExplainedText → Type 0
 ProvesTerms written g h t u (Proved text) = IsPrintedProof written g h t u (string_bytes text)
 ProvesTerms written g h t u Unequal = GoesTo g h × NeverFollows h.image t u
-ProvesTerms written g h t u Undecided = GoesTo g h
+ProvesTerms written g h t u Undecided = GoesTo g h × AreApart h.image t u
 
 abbrev pub DecideRefused : Graph → Graph → Error → Type 0
 DecideRefused g h e = HadFailed g h e ⊎ ((g.failed ≡ false) × CanRefuse e)

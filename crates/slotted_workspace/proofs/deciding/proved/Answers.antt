@@ -29,3 +29,10 @@ returns-in-Unequal-clause-ok g c =
       goes-well c.args.graph.now k c.decided_explain.result c.in_ok-proof.field-0 c.in_ok-proof.was c.decided_explain.ensures.goes c.decided_explain.ensures.fails,
       never-follows k.image c.args.left.now.term c.args.right.now.term (subst (IsExplained k.image c.args.left.now.term c.args.right.now.term) c.in-Unequal.is c.in_ok-proof.ensures.explained),
     )
+
+pub returns-in-Undecided-clause-ok : goal.returns-in-Undecided-clause-ok
+returns-in-Undecided-clause-ok g c =
+    let k = c.decided_explain.new.graph in (
+      goes-well c.args.graph.now k c.decided_explain.result c.in_ok-proof.field-0 c.in_ok-proof.was c.decided_explain.ensures.goes c.decided_explain.ensures.fails,
+      subst (IsExplained k.image c.args.left.now.term c.args.right.now.term) c.in-Undecided.is c.in_ok-proof.ensures.explained,
+    )
