@@ -20,3 +20,4 @@ pub mod InGroup
 pub mod LeastIds
 pub mod EqualIds
 pub mod DecidedIds
+pub mod DecidedVariants
