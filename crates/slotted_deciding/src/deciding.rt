@@ -1,5 +1,6 @@
 //! Deciding a graph.
 ghost use Rattle.std.specs.Prelude.{◌≡◌, ◌⊎◌, ◌↔◌, [], IfErr, IfOk, IsErr, IsErrOf, IsNone, IsTrue, OnOk};
+ghost use Rattle.slotted_operations.specs.Graph.{OnlyTakesSlots};
 ghost use Rattle.slotted_graph.specs.States.{IsGraph};
 ghost use Rattle.slotted_deciding.specs.Equality.{IsDecidedGraph};
 ghost use Rattle.slotted_graph.specs.Analysed.{LowersData};
@@ -22,6 +23,7 @@ fn any_missing<L: Language, N: Analysis<L>>(
 ) -> Result<Vec<Missing<L>>, Error>
     requires graph { IsGraph graph.old }
     ensures none { IfOk result (λ v. v.items ≡ [] → IsDecidedGraph graph.new) }
+    ensures takes { OnOk result (OnlyTakesSlots graph.old graph.new) }
     ensures goes { OnOk result (LeadsTo N.codes N.meaning graph.old graph.new) }
     ensures err { IfErr result CanRefuse }
 {
@@ -40,6 +42,7 @@ fn settle<L: Language, N: Analysis<L>>(
 ) -> Result<bool, Error>
     requires graph { IsGraph graph.old }
     ensures decided { IfOk result (λ y. IsTrue y → IsDecidedGraph graph.new) }
+    ensures kept { IsDecidedGraph graph.old → OnOk result (OnlyTakesSlots graph.old graph.new) }
     ensures goes { OnOk result (LeadsTo N.codes N.meaning graph.old graph.new) }
     ensures err { IfErr result CanRefuse }
 {
@@ -74,6 +77,9 @@ pub fn decide<L: Language, N: Analysis<L>>(
 
     // A graph that met no symmetry is decided as it is.
     ensures none_met { graph.old.image.symmetries ≡ [] → IfOk result IsTrue × (graph.new ≡ graph.old) }
+
+    // To decide a decided graph takes fresh slots alone.
+    ensures kept { IsDecidedGraph graph.old → OnOk result (OnlyTakesSlots graph.old graph.new) }
 
     // What was there stays, and nothing is asserted. Data of the analysis only goes down.
     ensures goes { IsTrue graph.new.failed ⊎ GoesTo graph.old graph.new }

@@ -1,11 +1,13 @@
 //! A variant that a graph lacks, added and united by a checked step.
-ghost use Rattle.std.specs.Prelude.{◌≡◌, ◌⊎◌, ◌<◌, ◌+◌, length, IfErr, IfOk, IsTrue, OnOk};
+ghost use Rattle.std.specs.Prelude.{◌≡◌, ◌⊎◌, ◌<◌, ◌+◌, length, IfErr, IfOk, IfSome, IsTrue, OnOk};
 ghost use Rattle.slotted_slots.specs.Error.{IsOutOfMemory};
 ghost use Rattle.slotted_model.specs.ProofList.{equation_of};
 ghost use Rattle.slotted_proofs.specs.Equations.{to_applied};
 ghost use Rattle.slotted_operations.specs.Explaining.{StandsAt};
 ghost use Rattle.slotted_graph.specs.States.{IsGraph};
-ghost use Rattle.slotted_deciding.specs.Settling.{IsLookedUpAs};
+ghost use Rattle.slotted_operations.specs.ValidIds.{IsValidId, IsValidNode};
+ghost use Rattle.slotted_deciding.specs.Equality.{IsDecidedGraph};
+ghost use Rattle.slotted_deciding.specs.Settling.{IsExchanged, IsLookedUpAs};
 ghost use Rattle.slotted_deciding.specs.Steps.{CanRefuse, LeadsTo};
 
 use crate::is_equal_up_to_symmetries;
@@ -103,33 +105,34 @@ fn unite_proved<L: Language, N: Analysis<L>>(
     Ok(())
 }
 
-// Adds a variant that a graph lacks, and unites its id with the id that lacks it. Nothing is asserted.
+// Adds an e-node that a graph lacks, and unites its id with the id that lacks it. Nothing is asserted.
 //
 // The equation of the two ids is proved first, by a congruent step over the proof of the symmetry.
 fn unite_variant<L: Language, N: Analysis<L>>(
     alloc: Global,
     graph: &mut EGraph<L, N>,
     missing: &Missing<L>,
-    variant: &Variant<L>,
+    node: &L,
+    turn: Turn,
 ) -> Result<(), Error>
     requires graph { IsGraph graph.old }
     ensures goes { OnOk result (LeadsTo N.codes N.meaning graph.old graph.new) }
     ensures err { IfErr result CanRefuse }
 {
-    if !graph.is_valid_node(&variant.node) {
+    if !graph.is_valid_node(node) {
         return Err(Error::BadStep);
     }
-    let l = graph.add_syn_quietly(&variant.node)?;
+    let l = graph.add_syn_quietly(node)?;
     let _ = graph.is_failed();
     let equation = Equation {
         l,
         r: missing.id.copy(alloc)?,
     };
-    let proof = prove_variant(alloc, graph, &missing.node, variant.turn, &equation)?;
+    let proof = prove_variant(alloc, graph, &missing.node, turn, &equation)?;
     unite_proved(graph, &equation, proof)
 }
 
-// Returns whether a graph that lacked a variant of the e-node of an id lacks it still.
+// Returns whether a graph that lacked an e-node as an id lacks it still.
 fn is_still_missing<L: Language, N: Analysis<L>>(
     alloc: Global,
     graph: &EGraph<L, N>,
@@ -138,6 +141,8 @@ fn is_still_missing<L: Language, N: Analysis<L>>(
 ) -> Result<bool, Error>
     requires { IsGraph graph.now }
     ensures no { IfOk result (λ y. IsTrue y ⊎ IsLookedUpAs graph.now (to_applied id.now) (L.form variant.now)) }
+    ensures yes { IfOk result (λ y. IsTrue y → IsValidId graph.now (to_applied id.now) → IsValidNode graph.now (L.form variant.now)
+        → ¬ IsLookedUpAs graph.now (to_applied id.now) (L.form variant.now)) }
     ensures err { IfErr result IsOutOfMemory }
 {
     if !graph.is_valid(id) || !graph.is_valid_node(variant) {
@@ -147,6 +152,65 @@ fn is_still_missing<L: Language, N: Analysis<L>>(
         Some(found) => Ok(!is_equal_up_to_symmetries(alloc, graph, &found, id)?),
         None => Ok(true),
     }
+}
+
+// Returns the e-node of an id with the child of a variant, if the e-node is looked up as the id and both children are
+// equal up to symmetries.
+fn exchanged<L: Language, N: Analysis<L>>(
+    alloc: Global,
+    graph: &EGraph<L, N>,
+    missing: &Missing<L>,
+    variant: &Variant<L>,
+) -> Result<Option<L>, Error>
+    requires { IsGraph graph.now }
+    ensures ok { IfOk result (λ o. IfSome o (λ n. IsExchanged graph.now (to_applied missing.now.id) (L.form n))) }
+    ensures err { IfErr result IsOutOfMemory }
+{
+    let Missing {
+        id,
+        node,
+        variants: _,
+    } = missing;
+    let k = variant.turn.child;
+    if k >= node.applied_id_count() || k >= variant.node.applied_id_count() {
+        return Ok(None);
+    }
+    let (child, other) = (node.applied_id(k), variant.node.applied_id(k));
+    if !graph.is_valid(id)
+        || !graph.is_valid_node(node)
+        || !graph.is_valid(child)
+        || !graph.is_valid(other)
+    {
+        return Ok(None);
+    }
+    if is_still_missing(alloc, graph, id, node)?
+        || !is_equal_up_to_symmetries(alloc, graph, child, other)?
+    {
+        return Ok(None);
+    }
+    let mut exchanged = node.copy(alloc)?;
+    exchanged.set_applied_id(k, other.copy(alloc)?);
+    Ok(Some(exchanged))
+}
+
+// Returns the e-node of a variant that a graph lacks. No decided graph lacks one.
+fn lacking<L: Language, N: Analysis<L>>(
+    alloc: Global,
+    graph: &EGraph<L, N>,
+    missing: &Missing<L>,
+    variant: &Variant<L>,
+) -> Result<L, Error>
+    requires { IsGraph graph.now }
+    ensures ok { OnOk result (¬ IsDecidedGraph graph.now) }
+    ensures err { IfErr result CanRefuse }
+{
+    let Some(node) = exchanged(alloc, graph, missing, variant)? else {
+        return Err(Error::BadStep);
+    };
+    if !graph.is_valid_node(&node) || !is_still_missing(alloc, graph, &missing.id, &node)? {
+        return Err(Error::BadStep);
+    }
+    Ok(node)
 }
 
 // Unites a variant that a graph lacked, if it lacks the variant still and the limit is not met. Returns what is left of
@@ -161,6 +225,7 @@ fn unite_within<L: Language, N: Analysis<L>>(
     requires graph { IsGraph graph.old }
     ensures left { IfOk result (λ n. (n + 1 ≡ limit) ⊎ ((n ≡ limit) × (graph.new ≡ graph.old)
         × ((limit ≡ 0) ⊎ IsLookedUpAs graph.old (to_applied missing.now.id) (L.form variant.now.node)))) }
+    ensures kept { IsDecidedGraph graph.old → OnOk result (graph.new ≡ graph.old) }
     ensures goes { OnOk result (LeadsTo N.codes N.meaning graph.old graph.new) }
     ensures err { IfErr result CanRefuse }
 {
@@ -170,7 +235,8 @@ fn unite_within<L: Language, N: Analysis<L>>(
     if !is_still_missing(alloc, graph, &missing.id, &variant.node)? {
         return Ok(limit);
     }
-    unite_variant(alloc, graph, missing, variant)?;
+    let node = lacking(alloc, graph, missing, variant)?;
+    unite_variant(alloc, graph, missing, &node, variant.turn)?;
     Ok(limit - 1)
 }
 
@@ -182,6 +248,7 @@ fn unite_variants<L: Language, N: Analysis<L>>(
     limit: usize,
 ) -> Result<usize, Error>
     requires graph { IsGraph graph.old }
+    ensures kept { IsDecidedGraph graph.old → OnOk result (graph.new ≡ graph.old) }
     ensures goes { OnOk result (LeadsTo N.codes N.meaning graph.old graph.new) }
     ensures err { IfErr result CanRefuse }
 {
@@ -201,6 +268,7 @@ pub fn unite_all<L: Language, N: Analysis<L>>(
     limit: usize,
 ) -> Result<usize, Error>
     requires graph { IsGraph graph.old }
+    ensures kept { IsDecidedGraph graph.old → OnOk result (graph.new ≡ graph.old) }
     ensures goes { OnOk result (LeadsTo N.codes N.meaning graph.old graph.new) }
     ensures err { IfErr result CanRefuse }
 {

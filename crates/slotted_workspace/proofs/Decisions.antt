@@ -109,9 +109,10 @@ module _ {L : Type 0} (g h : Graph) (k l : Kept L) (one : IsTrue g.failed ⊎ Is
   judged-ok (Ok v) failed goes fails judged =
       judges g h k l (kept-answered g v failed one) (kept-answered g v failed two) (sound_graph g.failed (Ok v) v refl failed.1) (goes-well g h (Ok v) v refl goes fails) v judged
 
-pub decided-ok : (g h : Graph) (r : Result Bool Error) → (IsErrOf r Failed ↔ IsTrue g.failed) → IsTrue h.failed ⊎ GoesTo g h → (IsTrue h.failed ↔ IsErr r) → IfOk r (λ y. IsTrue y → IsDecidedGraph h) → IfOk r (DecidesGraph g h)
-decided-ok g h (Err e) failed goes fails decided = tt
-decided-ok g h (Ok y) failed goes fails decided = record { well = sound_graph g.failed (Ok y) y refl failed.1; goes = goes-well g h (Ok y) y refl goes fails; decided = decided }
+pub decided-ok : (g h : Graph) (r : Result Bool Error) → (IsErrOf r Failed ↔ IsTrue g.failed) → IsTrue h.failed ⊎ GoesTo g h → (IsTrue h.failed ↔ IsErr r) → IfOk r (λ y. IsTrue y → IsDecidedGraph h) →
+    (IsDecidedGraph g → OnOk r (OnlyTakesSlots g h)) → IfOk r (DecidesGraph g h)
+decided-ok g h (Err e) failed goes fails decided kept = tt
+decided-ok g h (Ok y) failed goes fails decided kept = record { well = sound_graph g.failed (Ok y) y refl failed.1; goes = goes-well g h (Ok y) y refl goes fails; decided = decided; kept = kept }
 
 -- a run of rules
 module _ {L : Type 0} (form : L → Form) (rules : List (Rewrite L CondTree)) (limits : DecidedLimits) (g h : Graph) where

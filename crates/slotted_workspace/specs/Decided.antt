@@ -1,6 +1,6 @@
 -- What calls of a workspace answer that decide symmetries.
 --     NeverFollows g t u          the terms t and u are derivable from no named equations that are the asserted list
---     DecidesGraph g h y          from g to h nothing is asserted; after a yes the graph is decided
+--     DecidesGraph g h y          from g to h nothing is asserted; after a yes the graph is decided; a graph that was takes slots alone
 --     JudgesTerms g h t u v       the graph was decided, from g to h; a yes and a no about two terms are right, without exception; else they are not equal up to symmetries
 --     ProvesTerms written g h t u x      so it was; a yes has a printed proof, and a no is right; else they are not equal up to symmetries
 --     DecideRefused g h e         the graph had failed; or memory or slots ran out, or a step did not fit
@@ -55,6 +55,7 @@ pub record DecidesGraph (g h : Graph) (y : Bool) : Type 0 where
   pub well : g.failed ≡ false
   pub goes : GoesTo g h
   pub decided : IsTrue y → IsDecidedGraph h
+  pub kept : IsDecidedGraph g → OnlyTakesSlots g h
 
 pub record JudgesTerms (g h : Graph) (t u : Term) (v : Verdict) : Type 0 where
   pub well : g.failed ≡ false

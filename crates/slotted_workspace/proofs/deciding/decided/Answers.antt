@@ -4,7 +4,7 @@ use Rattle.slotted_workspace.proofs.deciding.decided.Goals as goal
 pub returns-clause-ok : goal.returns-clause-ok
 returns-clause-ok g c =
     let e = c.decide.ensures in
-    decided-ok c.args.graph.now c.decide.new.graph c.decide.result e.failed e.goes e.fails e.decided
+    decided-ok c.args.graph.now c.decide.new.graph c.decide.result e.failed e.goes e.fails e.decided e.kept
 
 pub returns-clause-err : goal.returns-clause-err
 returns-clause-err g c =
