@@ -1,13 +1,13 @@
 //! The rules of arithmetic.
 use slotted_analyses::Analysis;
 use slotted_graph::EGraph;
-use slotted_rules::{Always, Rewrite};
+use slotted_rules::{Always, Rewrite, UnlessEqual, sparing};
 use slotted_slots::Error;
 use slotted_small::Small;
 use std::alloc::Global;
 
-/// A rule of arithmetic, which has no condition.
-pub type Rule = Rewrite<Small, Always>;
+/// A rule of arithmetic, which passes over what is found equal already.
+pub type Rule = Rewrite<Small, UnlessEqual<Small, Always>>;
 
 // The name and both sides of each rule. Associativity of products is left out. With it a product with 0 would never be
 // saturated, since it has each such product as a part.
@@ -37,7 +37,8 @@ fn rule<N: Analysis<Small>>(
 ) -> Result<Rule, Error> {
     let searched = graph.parse_pattern(texts.1)?;
     let made = graph.parse_pattern(texts.2)?;
-    Rewrite::from_patterns(alloc, texts.0, searched, made, Always)
+    let rule = Rewrite::from_patterns(alloc, texts.0, searched, made, Always)?;
+    sparing(alloc, rule)
 }
 
 /// Returns the rules, over the graph's table.

@@ -3,7 +3,7 @@ use crate::condition::Asked;
 use anyhow::Result;
 use slotted_graph::EGraph;
 use slotted_rule_texts::{RuleText, SlotCondition};
-use slotted_rules::{Rewrite, SlotFreeIn, slot_free_in};
+use slotted_rules::{Rewrite, SlotFreeIn, UnlessEqual, slot_free_in, sparing};
 use slotted_slots::Error;
 use slotted_symbols::SymbolLang;
 use std::alloc::Global;
@@ -11,8 +11,8 @@ use std::alloc::Global;
 /// A graph of queries.
 pub type QueryGraph = EGraph<SymbolLang>;
 
-/// A rule, which may ask that a predicate mentions one side of a join only.
-pub type Rule = Rewrite<SymbolLang, Asked>;
+/// A rule, which may ask that a predicate mentions one side of a join only, and passes over what is found equal already.
+pub type Rule = Rewrite<SymbolLang, UnlessEqual<SymbolLang, Asked>>;
 
 // `(join xs ys $r $s p)` has the pairs of rows $r and $s for which p holds, `(filter xs $r p)` the rows for which it does.
 // Two conjuncts may differ by a symmetry, which matching does not use. So both orders stand here.
@@ -61,7 +61,8 @@ fn read_rule(alloc: Global, graph: &mut QueryGraph, rule: &RuleText) -> Result<R
     let asked = condition(alloc, graph, rule)?;
     let searched = graph.parse_pattern(rule.left)?;
     let made = graph.parse_pattern(rule.right)?;
-    Rewrite::from_patterns(alloc, rule.name, searched, made, asked)
+    let rule = Rewrite::from_patterns(alloc, rule.name, searched, made, asked)?;
+    sparing(alloc, rule)
 }
 
 /// Returns the rules, over the graph's table.

@@ -25,6 +25,10 @@ module _ {A E : Type 0} where
   ok-mapped (Ok a) h f = f a h
   ok-mapped (Err x) h f = tt
 
+  pub ok-with : (r : Result A E) {Q : Type 0} {P R : A → Type 0} → OnOk r Q → IfOk r P → ((a : A) → Q → P a → R a) → IfOk r R
+  ok-with (Ok a) k h f = f a k h
+  ok-with (Err x) k h f = tt
+
   pub if-err-mapped : (r : Result A E) {P Q : E → Type 0} → IfErr r P → ((e : E) → P e → Q e) → IfErr r Q
   if-err-mapped (Ok a) h f = tt
   if-err-mapped (Err x) h f = f x h

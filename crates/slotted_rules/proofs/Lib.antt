@@ -46,3 +46,4 @@ pub mod EqsatTurns
 pub mod EqsatReports
 pub mod RefusedRuns
 pub mod Storing
+pub mod SeenInstances

@@ -31,3 +31,4 @@ pub mod Machine
 pub mod Counted
 pub mod RunOrigins
 pub mod Resting
+pub mod Unless

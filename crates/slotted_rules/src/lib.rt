@@ -43,6 +43,7 @@ pub mod substituting;
 mod substitution;
 pub(crate) mod turning;
 pub mod uniting;
+pub mod unless;
 pub mod with_method;
 pub mod written;
 
@@ -71,5 +72,6 @@ pub use runner::Runner;
 pub use searching::ematch_all;
 pub use substituting::subst_ids;
 pub use uniting::{union_instantiations, union_tested};
+pub use unless::{UnlessEqual, sparing};
 pub use with_method::subst_with;
 pub use written::apply_matches;

@@ -3,7 +3,7 @@ use anyhow::Result;
 use slotted_const_fold::ConstFold;
 use slotted_graph::EGraph;
 use slotted_rule_texts::RuleText;
-use slotted_rules::{CondTree, Rewrite, slot_free_in};
+use slotted_rules::{CondTree, Rewrite, UnlessEqual, slot_free_in, sparing};
 use slotted_slots::Error;
 use slotted_small::Small;
 use std::alloc::Global;
@@ -11,8 +11,8 @@ use std::alloc::Global;
 /// A graph in which a class that comes to a number equals that number.
 pub type SumGraph = EGraph<Small, ConstFold>;
 
-/// A rule, with the condition that some slot does not occur, or without one.
-pub type Rule = Rewrite<Small, CondTree>;
+/// A rule, which may ask that some slot does not occur, and passes over what is found equal already.
+pub type Rule = Rewrite<Small, UnlessEqual<Small, CondTree>>;
 
 // `(app (app sum n) (lam $k b))` is the sum of b for k from 1 to n. Over bound names the two orders of a product differ by
 // a symmetry, which matching does not use. So a rule on products stands here for both.
@@ -48,7 +48,8 @@ fn read_rule(alloc: Global, graph: &mut SumGraph, rule: &RuleText) -> Result<Rul
     let condition = condition(alloc, graph, rule)?;
     let searched = graph.parse_pattern(rule.left)?;
     let made = graph.parse_pattern(rule.right)?;
-    Rewrite::from_patterns(alloc, rule.name, searched, made, condition)
+    let rule = Rewrite::from_patterns(alloc, rule.name, searched, made, condition)?;
+    sparing(alloc, rule)
 }
 
 /// Returns the rules, over the graph's table.
