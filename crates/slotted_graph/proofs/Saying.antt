@@ -36,7 +36,7 @@ use Rattle.slotted_operations.specs.Graph.{Graph, IsFullId, RecordsUnion}
 use Rattle.slotted_operations.specs.Image.{AddsClasses, FillApart, IsUnion, asserted_in}
 use Rattle.slotted_graph.specs.States.{IsGraph}
 use Rattle.slotted_operations.specs.ValidIds.{IsValidId}
-use Rattle.slotted_graph.proofs.Extending.{between-longer, extends-added, extends-then, extends-united}
+use Rattle.slotted_graph.proofs.Extending.{between-longer, extends-added, extends-itself, extends-then, extends-united}
 use Rattle.slotted_graph.specs.Edited.{AddsTerm, AssertsMore, HasBareEntry, IsDone, IsIdOf, IsSaid, MakesEdit, UnitesIds}
 
 -- data that was carried along only went down
@@ -118,6 +118,7 @@ unites-ids codes meaning g h a b y is va vb u recorded table carries =
             subst (λ (e : Equation). asserted_in h.image ≡ asserted_in g.image ++ term_pair g.image.canonical e ∷ []) own added.1,
             record {
               number = x.number;
+              past = x.past;
               in_range = x.in_range;
               equation = ap (λ (z : Proven). z.statement.equation) x.entry ∙ own;
               step = ap (λ (z : Proven). z.step) x.entry;
@@ -153,13 +154,14 @@ then-more P Q R f g h first second a b = record {
   ];
 }
 
--- an entry stays
-bare-later : (h i : Graph) (e : Equation) → Begins h.image.stored i.image.stored → HasBareEntry h e → HasBareEntry i e
-bare-later h i e b x =
+-- an entry stays, and is past a beginning of the list
+bare-later : (f g h i : Graph) (e : Equation) → Begins f.image.stored g.image.stored → Begins h.image.stored i.image.stored → HasBareEntry g h e → HasBareEntry f i e
+bare-later f g h i e before b x =
     let same : proven_at i.image.stored x.number ≡ proven_at h.image.stored x.number =
     ap (λ l. slice_index_or l x.number nothing_proven) b.1 ∙ get_or_append_left h.image.stored b.0 nothing_proven x.number x.in_range in
     record {
       number = x.number;
+      past = omega (arith, x.past, ap length before.1, length-append f.image.stored before.0);
       in_range = omega (arith, x.in_range, ap length b.1, length-append h.image.stored b.0);
       equation = ap (λ (z : Proven). z.statement.equation) same ∙ x.equation;
       step = ap (λ (z : Proven). z.step) same ∙ x.step;
@@ -175,7 +177,7 @@ said-longer f g h i c e pair before after s = record {
   right = s.right;
   says = s.says;
   is = s.is;
-  entry = bare-later h i (equation_of s.left s.right) after.stored s.entry;
+  entry = bare-later f g h i (equation_of s.left s.right) before.stored after.stored s.entry;
 }
 
 -- an id of a term stays one
@@ -218,7 +220,7 @@ module _ {L N D : Type 0} (codes : Coded N × Coded D) (meaning : N → Meaning 
   }
 
   -- what is added and then united
-  united : (f h : Graph) (e : Edit L) (a b : Applied) → IsGraph f → ExtendsTo g f → asserted_in f.image ≡ asserted_in g.image → LowersData codes meaning g f → ((pair : DTerm × DTerm) → IsGraph f → ExtendsTo g f → pair ≡ term_pair f.image.canonical (equation_of a b) → ExtendsTo f h → HasBareEntry h (equation_of a b) → IsSaid g h c e pair) →
+  united : (f h : Graph) (e : Edit L) (a b : Applied) → IsGraph f → ExtendsTo g f → asserted_in f.image ≡ asserted_in g.image → LowersData codes meaning g f → ((pair : DTerm × DTerm) → IsGraph f → ExtendsTo g f → pair ≡ term_pair f.image.canonical (equation_of a b) → ExtendsTo f h → HasBareEntry g h (equation_of a b) → IsSaid g h c e pair) →
       UnitesIds codes meaning f h a b → IsDone h c e → MakesEdit codes meaning g h c e
   united f h e a b is extends same lowers said u done = record {
     graph = u.graph;
@@ -228,7 +230,7 @@ module _ {L N D : Type 0} (codes : Coded N × Coded D) (meaning : N → Meaning 
       | inl none ↦ no-more (IsSaid g h c e) g h (none ∙ same)
       | inr one ↦
           one-more (IsSaid g h c e) g h (term_pair f.image.canonical (equation_of a b)) (one.0 ∙ ap (λ l. l ++ term_pair f.image.canonical (equation_of a b) ∷ []) same)
-          (said (term_pair f.image.canonical (equation_of a b)) is extends refl u.extends one.1)
+          (said (term_pair f.image.canonical (equation_of a b)) is extends refl u.extends (bare-later g f h h (equation_of a b) extends.stored (extends-itself h).stored one.1))
     ];
     lowers = lowers-then codes meaning law g f h extends lowers u.lowers;
   }
