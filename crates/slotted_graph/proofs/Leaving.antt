@@ -23,7 +23,7 @@ use Rattle.slotted_graph.proofs.Insides.{given}
 use Rattle.slotted_graph.specs.Asked.{Asks, IsAskedBetween, IsAskedIn}
 use Rattle.slotted_graph.specs.Edited.{AssertsMore, IsSaid, MakesEdits, all_made, then_edit}
 use Rattle.slotted_graph.specs.Rounds.{LeavesModified, Modifies, ModifiesClass, TakesRound, TakesRounds, all_modified, modified, no_rounds, one_round, passed_over, then_modified}
-use Rattle.slotted_graph.proofs.Saying.{lowers-itself, lowers-then, no-more, said-longer, then-more}
+use Rattle.slotted_graph.proofs.Saying.{carried-lowers, lowers-itself, lowers-then, no-more, said-longer, then-more}
 
 -- where data alone changes, and whether the graph failed, it is extended
 other-part : (g : Graph) (failed : Bool) (part : Gv) → ExtendsTo g (record g { failed = failed; part = part })
@@ -87,7 +87,7 @@ module _ {L N D : Type 0} (codes : Coded N × Coded D) (meaning : N → Meaning 
 
   edits-lower : (law : (n : N) → IsMergeOf (meaning n)) {g : Graph} {c : Applied} {h : Graph} {es : List (Edit L)} → MakesEdits codes meaning g c es h → LowersData codes meaning g h
   edits-lower law {g = g} all_made = lowers-itself codes meaning law g
-  edits-lower law {g = g} {h = h} (then_edit {f = f} m x) = lowers-then codes meaning law g f h (edits-extend m) (edits-lower law m) x.lowers
+  edits-lower law {g = g} {h = h} (then_edit {f = f} m x) = lowers-then codes meaning law g f h (edits-extend m) (edits-lower law m) (carried-lowers codes meaning f h x.carries)
 
   -- one of the edits says so
   abbrev IsSaidByOne : Graph → Graph → Applied → List (Edit L) → DTerm × DTerm → Type 0

@@ -20,7 +20,7 @@ use Rattle.slotted_proofs.specs.Entries.{proven_at}
 use Rattle.slotted_analyses.specs.declared.edit.Edit.{Edit}
 use Rattle.slotted_analyses.specs.declared.edit.Edit.TheVariants.{Add, Equal, Equate}
 use Rattle.slotted_analyses.specs.Meaning.{Meaning}
-use Rattle.slotted_graph.specs.Analysed.{LowersData}
+use Rattle.slotted_graph.specs.Analysed.{CarriesData}
 use Rattle.slotted_operations.specs.Graph.{Graph, IsFullId}
 use Rattle.slotted_operations.specs.Image.{StandsIn, asserted_in}
 use Rattle.slotted_graph.specs.States.{IsGraph}
@@ -68,7 +68,7 @@ pub record AddsTerm {N D : Type 0} (codes : Coded N × Coded D) (meaning : N →
   pub asserted : asserted_in h.image ≡ asserted_in g.image
   pub full : IsFullId h a
   pub term : term_of h.image.canonical a ≡ nameless t
-  pub lowers : LowersData codes meaning g h
+  pub carries : CarriesData codes meaning g h
 
 -- the equation stands, and where it stood before, nothing more is asserted
 pub record UnitesIds {N D : Type 0} (codes : Coded N × Coded D) (meaning : N → Meaning D) (g h : Graph) (a b : Applied) : Type 0 where
@@ -77,15 +77,15 @@ pub record UnitesIds {N D : Type 0} (codes : Coded N × Coded D) (meaning : N �
   pub stands : StandsIn h.image (equation_of a b)
   pub asserts : (asserted_in h.image ≡ asserted_in g.image) ⊎
       ((asserted_in h.image ≡ asserted_in g.image ++ term_pair g.image.canonical (equation_of a b) ∷ []) × HasBareEntry g h (equation_of a b))
-  pub lowers : LowersData codes meaning g h
+  pub carries : CarriesData codes meaning g h
 
--- the terms were added, what the edit says stands, and nothing else was asserted
+-- the terms were added, what the edit says stands, and nothing else was asserted. What was made or has changed waits to be modified
 pub record MakesEdit {L N D : Type 0} (codes : Coded N × Coded D) (meaning : N → Meaning D) (g h : Graph) (c : Applied) (e : Edit L) : Type 0 where
   pub graph : IsGraph h
   pub extends : ExtendsTo g h
   pub done : IsDone h c e
   pub asserts : AssertsMore (IsSaid g h c e) g h
-  pub lowers : LowersData codes meaning g h
+  pub carries : CarriesData codes meaning g h
 
 pub data MakesEdits {L N D : Type 0} (codes : Coded N × Coded D) (meaning : N → Meaning D) (g : Graph) (c : Applied) : List (Edit L) → Graph → Type 0 where
   all_made : MakesEdits codes meaning g c [] g

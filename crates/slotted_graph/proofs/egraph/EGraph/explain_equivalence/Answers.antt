@@ -51,7 +51,7 @@ returns-clause-leaves g c =
     explained-asked g.N.Analysis.codes g.N.Analysis.meaning g.met.N.Analysis.is_merge g.N.Analysis.may_ask c.args.self.now c.explain_quietly.new.self e.adds e.more e.carries
 
 pub returns-then-modifies-clause-modified : goal.returns-then-modifies-clause-modified
-returns-then-modifies-clause-modified g c yes = c.explain_after_edits.ensures.modified
+returns-then-modifies-clause-modified g c modified = c.explain_after_edits.ensures.modified
 
 pub returns-clause-modified : goal.returns-clause-modified
-returns-clause-modified g c yes = absurd (false≢true (sym (sym c.modifies.ensures ∙ c.if-modifies.false) ∙ yes))
+returns-clause-modified g c modified = absurd (false≢true (sym (sym c.modifies.ensures ∙ c.if-modifies.false) ∙ modified))
