@@ -23,7 +23,7 @@ use Rattle.slotted_graph.proofs.Insides.{given}
 use Rattle.slotted_graph.specs.Asked.{Asks, IsAskedBetween, IsAskedIn}
 use Rattle.slotted_graph.specs.Edited.{AssertsMore, IsSaid, MakesEdits, all_made, then_edit}
 use Rattle.slotted_graph.specs.Rounds.{LeavesModified, Modifies, ModifiesClass, TakesRound, TakesRounds, all_modified, modified, no_rounds, one_round, passed_over, then_modified}
-use Rattle.slotted_graph.proofs.Saying.{lowers-itself, lowers-then, no-more, said-longer, then-more}
+use Rattle.slotted_graph.proofs.Saying.{carried-lowers, lowers-itself, lowers-then, no-more, said-longer, then-more}
 
 -- where data alone changes, and whether the graph failed, it is extended
 other-part : (g : Graph) (failed : Bool) (part : Gv) → ExtendsTo g (record g { failed = failed; part = part })
@@ -87,7 +87,7 @@ module _ {L N D : Type 0} (codes : Coded N × Coded D) (meaning : N → Meaning 
 
   edits-lower : (law : (n : N) → IsMergeOf (meaning n)) {g : Graph} {c : Applied} {h : Graph} {es : List (Edit L)} → MakesEdits codes meaning g c es h → LowersData codes meaning g h
   edits-lower law {g = g} all_made = lowers-itself codes meaning law g
-  edits-lower law {g = g} {h = h} (then_edit {f = f} m x) = lowers-then codes meaning law g f h (edits-extend m) (edits-lower law m) x.lowers
+  edits-lower law {g = g} {h = h} (then_edit {f = f} m x) = lowers-then codes meaning law g f h (edits-extend m) (edits-lower law m) (carried-lowers codes meaning f h x.carries)
 
   -- one of the edits says so
   abbrev IsSaidByOne : Graph → Graph → Applied → List (Edit L) → DTerm × DTerm → Type 0
@@ -106,10 +106,12 @@ module _ {L N D : Type 0} (codes : Coded N × Coded D) (meaning : N → Meaning 
   none-made (then_edit {e = e} {es = es} m x) none = absurd (none e (Contains-push es e))
 
   module _ (law : (n : N) → IsMergeOf (meaning n)) (ask : Asks L N D) where
-    pub asked-longer : (f g h i : Graph) (p : DTerm × DTerm) → ExtendsTo f g → ExtendsTo h i → IsAskedBetween codes ask g h p → IsAskedBetween codes ask f i p
-    asked-longer f g h i p before after a = record {
+    pub asked-longer : (f g h i : Graph) (p : DTerm × DTerm) → ExtendsTo f g → LowersData codes meaning f g → ExtendsTo h i → LowersData codes meaning h i → IsAskedBetween codes meaning ask g h p → IsAskedBetween codes meaning ask f i p
+    asked-longer f g h i p before down after later a = record {
       moment = a.moment;
       between = between-longer f g h i a.moment before after a.between;
+      down = lowers-then codes meaning law f g a.moment before down a.down;
+      later = lowers-then codes meaning law a.moment h i a.between.before a.later later;
       class = a.class;
       lives = a.lives;
       edit = a.edit;
@@ -121,7 +123,7 @@ module _ {L N D : Type 0} (codes : Coded N × Coded D) (meaning : N → Meaning 
     leaves-itself g is = record {
       graph = is;
       extends = extends-itself g;
-      asserts = no-more (IsAskedBetween codes ask g g) g g refl;
+      asserts = no-more (IsAskedBetween codes meaning ask g g) g g refl;
       lowers = lowers-itself codes meaning law g;
       alone = λ n k nothing. keeps-itself g;
     }
@@ -130,9 +132,9 @@ module _ {L N D : Type 0} (codes : Coded N × Coded D) (meaning : N → Meaning 
     leaves-then f g h a b = record {
       graph = b.graph;
       extends = extends-then f g h a.extends b.extends;
-      asserts = then-more (IsAskedBetween codes ask f g) (IsAskedBetween codes ask g h) (IsAskedBetween codes ask f h) f g h
-          (λ p x. asked-longer f f g h p (extends-itself f) b.extends x)
-          (λ p x. asked-longer f g h h p a.extends (extends-itself h) x)
+      asserts = then-more (IsAskedBetween codes meaning ask f g) (IsAskedBetween codes meaning ask g h) (IsAskedBetween codes meaning ask f h) f g h
+          (λ p x. asked-longer f f g h p (extends-itself f) (lowers-itself codes meaning law f) b.extends b.lowers x)
+          (λ p x. asked-longer f g h h p a.extends a.lowers (extends-itself h) (lowers-itself codes meaning law h) x)
           a.asserts b.asserts;
       lowers = lowers-then codes meaning law f g h a.extends a.lowers b.lowers;
       alone = λ n k nothing. keeps-then f g h (a.alone n k nothing) (b.alone n (keeps-analysis codes meaning f g n a.lowers k) nothing);
@@ -152,6 +154,8 @@ module _ {L N D : Type 0} (codes : Coded N × Coded D) (meaning : N → Meaning 
             each = λ p x. let s = said.each p x in record {
               moment = g;
               between = record { graph = is; after = extends-itself g; before = extends };
+              down = lowers-itself codes meaning law g;
+              later = edits-lower law makes;
               class = c;
               lives = lives;
               edit = s.0;
@@ -177,7 +181,7 @@ module _ {L N D : Type 0} (codes : Coded N × Coded D) (meaning : N → Meaning 
     taken-leaves g h is graph takes same = record {
       graph = graph;
       extends = extends-kept g h same;
-      asserts = no-more (IsAskedBetween codes ask g h) g h (ap asserted_in same.image);
+      asserts = no-more (IsAskedBetween codes meaning ask g h) g h (ap asserted_in same.image);
       lowers = λ p keeps.
           let one : takes.part ≡ p = (part_code codes).inj takes.part p (sym takes.keeps ∙ keeps) in
           subst (λ (q : Part N D). LowersPart codes meaning g q h) one (record {

@@ -1,5 +1,5 @@
 -- What edits say, and that it stays said as a graph is extended.
-use Rattle.std.proofs.Common.{◌≡◌, ◌∙◌, [], ◌∷◌, ◌++◌, length, append_assoc, ap, refl, sym, subst, inl, inr, arith, length-append}
+use Rattle.std.proofs.Common.{◌≡◌, ◌∙◌, ℕ, List, [], ◌∷◌, ◌++◌, length, append_assoc, ap, refl, sym, subst, inl, inr, arith, length-append}
 use Rattle.std.specs.Prelude.{◌⊎◌, Bool, true, false, IsTrue, IsOk, IsErrOf, IfOk, IfErr, None, Result, Ok, Err, slice_index_or}
 use Rattle.std.specs.Coded.{Coded}
 use Rattle.std.proofs.lemmas.Bool.{false≢true}
@@ -21,6 +21,7 @@ use Rattle.slotted_model.specs.ProofList.{Equation, equation_of, term_pair}
 use Rattle.slotted_model.proofs.Represented.FillingEquations.{filled-equation}
 use Rattle.slotted_proofs.specs.Entries.{Proven, nothing_proven, proven_at}
 use Rattle.slotted_proofs.specs.Equations.{to_applied}
+use Rattle.slotted_rebuilding.specs.Counted.{CountsGo}
 use Rattle.slotted_rebuilding.proofs.RebuildCounts.{counts-same, counts-then}
 use Rattle.slotted_operations.proofs.CallerLemmas.{term_later}
 use Rattle.slotted_analyses.specs.Meaning.{IsMergeOf, Meaning, by_bare_nodes}
@@ -29,14 +30,14 @@ use Rattle.slotted_analyses.specs.declared.edit.Edit.TheVariants.{Add, Equal, Eq
 use Rattle.slotted_analyses.specs.Edits.{IsValidEdit}
 use Rattle.slotted_model_analyses.specs.Analysis.{Absorbs}
 use Rattle.slotted_model_analyses.proofs.Absorbing.{absorbs-through}
-use Rattle.slotted_data.specs.Part.{Part, part_code}
-use Rattle.slotted_graph.specs.Analysed.{CarriesData, LowersData, LowersPart}
+use Rattle.slotted_data.specs.Part.{NotesChanges, Part, part_code}
+use Rattle.slotted_graph.specs.Analysed.{CarriesData, DataFalls, LowersData, LowersPart}
 use Rattle.slotted_graph.specs.Extension.{Begins, ExtendsTo}
 use Rattle.slotted_operations.specs.Graph.{Graph, IsFullId, RecordsUnion}
 use Rattle.slotted_operations.specs.Image.{AddsClasses, FillApart, IsUnion, asserted_in}
 use Rattle.slotted_graph.specs.States.{IsGraph}
 use Rattle.slotted_operations.specs.ValidIds.{IsValidId}
-use Rattle.slotted_graph.proofs.Extending.{between-longer, extends-added, extends-then, extends-united}
+use Rattle.slotted_graph.proofs.Extending.{between-longer, extends-added, extends-itself, extends-then, extends-united}
 use Rattle.slotted_graph.specs.Edited.{AddsTerm, AssertsMore, HasBareEntry, IsDone, IsIdOf, IsSaid, MakesEdit, UnitesIds}
 
 -- data that was carried along only went down
@@ -75,6 +76,32 @@ lowers-itself codes meaning law g p keeps = record {
   falls = λ i within x has. (x, has, (law p.analysis).idempotent x);
 }
 
+-- what was made or has changed in the one call or in the other waits to be modified
+pub notes-then : {D : Type 0} (values later last : List D) (changed more all : List ℕ) → NotesChanges values changed later more → NotesChanges later more last all → NotesChanges values changed last all
+notes-then values later last changed more all first second = record {
+  kept = λ i c. second.kept i (first.kept i c);
+  same = λ i y is none. first.same i y (second.same i y is none) (λ c. none (second.kept i c));
+}
+
+-- data that is carried along twice is carried along
+pub carries-then : {N D : Type 0} (codes : Coded N × Coded D) (meaning : N → Meaning D) (law : (n : N) → IsMergeOf (meaning n)) (f g h : Graph) → ExtendsTo f g → CarriesData codes meaning f g → CarriesData codes meaning g h → CarriesData codes meaning f h
+carries-then {N} {D} codes meaning law f g h extends a b =
+    let same : a.newer ≡ b.older = (part_code codes).inj a.newer b.older (sym a.after ∙ b.before) in
+    let both = lowers-then codes meaning law f g h extends (carried-lowers codes meaning f g a) (carried-lowers codes meaning g h b) a.older a.before in
+    let last : both.newer ≡ b.newer = (part_code codes).inj both.newer b.newer (sym both.after ∙ b.after) in
+    record {
+      older = a.older;
+      newer = b.newer;
+      before = a.before;
+      after = b.after;
+      analysis = subst (λ (q : Part N D). q.analysis ≡ a.older.analysis) last both.analysis;
+      rounds = subst (λ (q : Part N D). q.rounds ≡ a.older.rounds) last both.rounds;
+      falls = subst (DataFalls meaning f a.older h) last both.falls;
+      notes = λ d. notes-then a.older.values b.older.values b.newer.values a.older.changed b.older.changed b.newer.changed
+          (subst (λ (q : Part N D). NotesChanges a.older.values a.older.changed q.values q.changed) same (a.notes d)) (b.notes d);
+      counts = subst (λ (q : Part N D). CountsGo a.older.counts.own q.counts.own) last both.counts;
+    }
+
 -- a call that did not refuse leaves a graph
 pub graph-kept : (g : Graph) → IsTrue g.failed ⊎ IsGraph g → (IsTrue g.failed → false ≡ true) → IsGraph g
 graph-kept g (inl failed) well = absurd (false≢true (well failed))
@@ -89,7 +116,7 @@ adds-term codes meaning g h t a is extends adds more full term carries = record 
   asserted = adds.asserted;
   full = full;
   term = term;
-  lowers = carried-lowers codes meaning g h carries;
+  carries = carries;
 }
 
 valid-none : (g : Graph) (a : Applied) → IsValidId g a → IsValid (λ c. []) g.image.canonical a
@@ -118,6 +145,7 @@ unites-ids codes meaning g h a b y is va vb u recorded table carries =
             subst (λ (e : Equation). asserted_in h.image ≡ asserted_in g.image ++ term_pair g.image.canonical e ∷ []) own added.1,
             record {
               number = x.number;
+              past = x.past;
               in_range = x.in_range;
               equation = ap (λ (z : Proven). z.statement.equation) x.entry ∙ own;
               step = ap (λ (z : Proven). z.step) x.entry;
@@ -126,7 +154,7 @@ unites-ids codes meaning g h a b y is va vb u recorded table carries =
           )
         ]
       ];
-      lowers = carried-lowers codes meaning g h carries;
+      carries = carries;
     }
 
 -- nothing more is asserted, one pair is, or some are and then others
@@ -153,13 +181,14 @@ then-more P Q R f g h first second a b = record {
   ];
 }
 
--- an entry stays
-bare-later : (h i : Graph) (e : Equation) → Begins h.image.stored i.image.stored → HasBareEntry h e → HasBareEntry i e
-bare-later h i e b x =
+-- an entry stays, and is past a beginning of the list
+bare-later : (f g h i : Graph) (e : Equation) → Begins f.image.stored g.image.stored → Begins h.image.stored i.image.stored → HasBareEntry g h e → HasBareEntry f i e
+bare-later f g h i e before b x =
     let same : proven_at i.image.stored x.number ≡ proven_at h.image.stored x.number =
     ap (λ l. slice_index_or l x.number nothing_proven) b.1 ∙ get_or_append_left h.image.stored b.0 nothing_proven x.number x.in_range in
     record {
       number = x.number;
+      past = omega (arith, x.past, ap length before.1, length-append f.image.stored before.0);
       in_range = omega (arith, x.in_range, ap length b.1, length-append h.image.stored b.0);
       equation = ap (λ (z : Proven). z.statement.equation) same ∙ x.equation;
       step = ap (λ (z : Proven). z.step) same ∙ x.step;
@@ -175,7 +204,7 @@ said-longer f g h i c e pair before after s = record {
   right = s.right;
   says = s.says;
   is = s.is;
-  entry = bare-later h i (equation_of s.left s.right) after.stored s.entry;
+  entry = bare-later f g h i (equation_of s.left s.right) before.stored after.stored s.entry;
 }
 
 -- an id of a term stays one
@@ -214,13 +243,13 @@ module _ {L N D : Type 0} (codes : Coded N × Coded D) (meaning : N → Meaning 
     extends = adds.extends;
     done = (a, (adds.full.full, adds.term));
     asserts = no-more (IsSaid g h c (Add t)) g h adds.asserted;
-    lowers = adds.lowers;
+    carries = adds.carries;
   }
 
   -- what is added and then united
-  united : (f h : Graph) (e : Edit L) (a b : Applied) → IsGraph f → ExtendsTo g f → asserted_in f.image ≡ asserted_in g.image → LowersData codes meaning g f → ((pair : DTerm × DTerm) → IsGraph f → ExtendsTo g f → pair ≡ term_pair f.image.canonical (equation_of a b) → ExtendsTo f h → HasBareEntry h (equation_of a b) → IsSaid g h c e pair) →
+  united : (f h : Graph) (e : Edit L) (a b : Applied) → IsGraph f → ExtendsTo g f → asserted_in f.image ≡ asserted_in g.image → CarriesData codes meaning g f → ((pair : DTerm × DTerm) → IsGraph f → ExtendsTo g f → pair ≡ term_pair f.image.canonical (equation_of a b) → ExtendsTo f h → HasBareEntry g h (equation_of a b) → IsSaid g h c e pair) →
       UnitesIds codes meaning f h a b → IsDone h c e → MakesEdit codes meaning g h c e
-  united f h e a b is extends same lowers said u done = record {
+  united f h e a b is extends same carries said u done = record {
     graph = u.graph;
     extends = extends-then g f h extends u.extends;
     done = done;
@@ -228,15 +257,15 @@ module _ {L N D : Type 0} (codes : Coded N × Coded D) (meaning : N → Meaning 
       | inl none ↦ no-more (IsSaid g h c e) g h (none ∙ same)
       | inr one ↦
           one-more (IsSaid g h c e) g h (term_pair f.image.canonical (equation_of a b)) (one.0 ∙ ap (λ l. l ++ term_pair f.image.canonical (equation_of a b) ∷ []) same)
-          (said (term_pair f.image.canonical (equation_of a b)) is extends refl u.extends one.1)
+          (said (term_pair f.image.canonical (equation_of a b)) is extends refl u.extends (bare-later g f h h (equation_of a b) extends.stored (extends-itself h).stored one.1))
     ];
-    lowers = lowers-then codes meaning law g f h extends lowers u.lowers;
+    carries = carries-then codes meaning law g f h extends carries u.carries;
   }
 
   -- the class equals a term
   pub makes-equal : (f h : Graph) (t : Term) (b : Applied) → AddsTerm codes meaning g f t b → UnitesIds codes meaning f h c b → MakesEdit {L = L} codes meaning g h c (Equal t)
   makes-equal f h t b adds u =
-      united f h (Equal t) c b adds.graph adds.extends adds.asserted adds.lowers
+      united f h (Equal t) c b adds.graph adds.extends adds.asserted adds.carries
       (λ pair is before same after entry. record {
         moment = f;
         between = record { graph = is; after = before; before = after };
@@ -252,7 +281,7 @@ module _ {L N D : Type 0} (codes : Coded N × Coded D) (meaning : N → Meaning 
   -- two terms are equal
   pub makes-equate : (e f h : Graph) (t v : Term) (a b : Applied) → AddsTerm codes meaning g e t a → AddsTerm codes meaning e f v b → UnitesIds codes meaning f h a b → MakesEdit {L = L} codes meaning g h c (Equate t v)
   makes-equate e f h t v a b first second u =
-      united f h (Equate t v) a b second.graph (extends-then g e f first.extends second.extends) (second.asserted ∙ first.asserted) (lowers-then codes meaning law g e f first.extends first.lowers second.lowers)
+      united f h (Equate t v) a b second.graph (extends-then g e f first.extends second.extends) (second.asserted ∙ first.asserted) (carries-then codes meaning law g e f first.extends first.carries second.carries)
       (λ pair is before same after entry. record {
         moment = f;
         between = record { graph = is; after = before; before = after };

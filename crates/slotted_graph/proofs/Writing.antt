@@ -7,12 +7,13 @@ use Rattle.std.proofs.lemmas.Bool.{false≢true}
 use Rattle.slotted_slots.specs.Table.{KnowsMore}
 use Rattle.slotted_slots.specs.declared.types.AppliedId.{AppliedId}
 use Rattle.slotted_proofs.specs.Equations.{to_applied}
+use Rattle.slotted_theory.specs.Term.{Term}
 use Rattle.slotted_nodes.specs.Form.{Form}
 use Rattle.slotted_model.specs.Applied.{Applied}
 use Rattle.slotted_model.specs.Growth.{Extends}
 use Rattle.slotted_analyses.specs.Meaning.{IsMergeOf, Meaning}
 use Rattle.slotted_data.specs.Part.{Part, part_code}
-use Rattle.slotted_operations.specs.Explaining.{AddsTerms}
+use Rattle.slotted_operations.specs.Explaining.{AddsTerms, KeepsKnown}
 use Rattle.slotted_operations.specs.Graph.{Graph, RecordsUnion}
 use Rattle.slotted_operations.specs.Image.{AddsClasses, FoundAlike, IsUnion, asserted_in}
 use Rattle.slotted_operations.specs.LookUp.{IsOneGraph, MakesClassFor, look_up}
@@ -22,11 +23,11 @@ use Rattle.slotted_graph.specs.Asked.{Asks, IsAskedBetween}
 use Rattle.slotted_graph.specs.Extension.{ExtendsTo}
 use Rattle.slotted_graph.specs.Rounds.{IsModified, LeavesModified, MakesRounds, no_rounds}
 use Rattle.slotted_graph.specs.States.{IsGraph}
-use Rattle.slotted_graph.specs.Writing.{AddsAndModifies, AddsMore, IfUnmodified, LeavesAsked, MakesForNode, MergesAndModifies, UnitesAndModifies}
+use Rattle.slotted_graph.specs.Writing.{AddsAndModifies, AddsMore, ExplainsAndModifies, IfUnmodified, LeavesAsked, MakesForNode, MakesForSynTerm, MergesAndModifies, UnitesAndModifies}
 use Rattle.slotted_graph.proofs.Extending.{extends-added, extends-itself, extends-then, extends-united}
 use Rattle.slotted_graph.proofs.Insides.{given}
 use Rattle.slotted_graph.proofs.Leaving.{asked-longer, extends-kept, leaves-itself}
-use Rattle.slotted_graph.proofs.Saying.{carried-lowers, graph-kept, lowers-then, no-more, then-more}
+use Rattle.slotted_graph.proofs.Saying.{carried-lowers, graph-kept, lowers-itself, lowers-then, no-more, then-more}
 
 -- which classes were made, told of an answer
 pub ok-both : {A : Type 0} (r : Result A Error) (P Q : Type 0) → OnOk r P → OnOk r Q → OnOk r (P × Q)
@@ -113,16 +114,16 @@ module _ {L N D : Type 0} (codes : Coded N × Coded D) (meaning : N → Meaning 
   asks-none : (g h : Graph) → ExtendsTo g h → asserted_in h.image ≡ asserted_in g.image → CarriesData codes meaning g h → LeavesAsked codes meaning ask g h
   asks-none g h extends same carries = record {
     extends = extends;
-    asserts = no-more (IsAskedBetween codes ask g h) g h same;
+    asserts = no-more (IsAskedBetween codes meaning ask g h) g h same;
     lowers = carried-lowers codes meaning g h carries;
   }
 
   pub asked-then : (f g h : Graph) → LeavesAsked codes meaning ask f g → LeavesAsked codes meaning ask g h → LeavesAsked codes meaning ask f h
   asked-then f g h a b = record {
     extends = extends-then f g h a.extends b.extends;
-    asserts = then-more (IsAskedBetween codes ask f g) (IsAskedBetween codes ask g h) (IsAskedBetween codes ask f h) f g h
-        (λ p x. asked-longer codes meaning law ask f f g h p (extends-itself f) b.extends x)
-        (λ p x. asked-longer codes meaning law ask f g h h p a.extends (extends-itself h) x)
+    asserts = then-more (IsAskedBetween codes meaning ask f g) (IsAskedBetween codes meaning ask g h) (IsAskedBetween codes meaning ask f h) f g h
+        (λ p x. asked-longer codes meaning law ask f f g h p (extends-itself f) (lowers-itself codes meaning law f) b.extends b.lowers x)
+        (λ p x. asked-longer codes meaning law ask f g h h p a.extends a.lowers (extends-itself h) (lowers-itself codes meaning law h) x)
         a.asserts b.asserts;
     lowers = lowers-then codes meaning law f g h a.extends a.lowers b.lowers;
   }
@@ -199,6 +200,14 @@ module _ {L N D : Type 0} (codes : Coded N × Coded D) (meaning : N → Meaning 
   pub explained-after : (f g h : Graph) → LeavesAsked codes meaning ask f g → IsTrue h.failed ⊎ LeavesAsked codes meaning ask g h → IsTrue h.failed ⊎ LeavesAsked codes meaning ask f h
   explained-after f g h edits (inl failed) = inl failed
   explained-after f g h edits (inr more) = inr (asked-then f g h edits more)
+
+  -- both terms were added with their edits, and then nothing is asked
+  pub explains-modified : (modifies : Bool) (t u : Term) (f g h i : Graph) → AddsAndModifies codes meaning ask modifies (MakesForSynTerm t) f g → AddsAndModifies codes meaning ask modifies (MakesForSynTerm u) g h →
+      IsTrue i.failed ⊎ AddsTerms h.image i.image → IsTrue i.failed ⊎ KeepsKnown h i t u → IsTrue i.failed ⊎ CarriesData codes meaning h i → IsTrue i.failed ⊎ ExplainsAndModifies codes meaning ask modifies t u f i
+  explains-modified modifies t u f g h i left right (inl failed) kept carries = inl failed
+  explains-modified modifies t u f g h i left right (inr adds) (inl failed) carries = inl failed
+  explains-modified modifies t u f g h i left right (inr adds) (inr kept) (inl failed) = inl failed
+  explains-modified modifies t u f g h i left right (inr adds) (inr kept) (inr carries) = inr (record { first = g; left = left; both = h; right = right; adds = adds; kept = kept; carries = carries })
 
 -- what holds before holds after, where classes are never modified
 pub still-unmodified : {L N D : Type 0} (codes : Coded N × Coded D) (meaning : N → Meaning D) (ask : Asks L N D) (modifies : Bool) (g h : Graph) (y : Bool) → IsModified codes meaning ask modifies g h y →

@@ -56,7 +56,7 @@ pub record MakesRounds {L N D : Type 0} (codes : Coded N × Coded D) (meaning : 
 pub record LeavesModified {L N D : Type 0} (codes : Coded N × Coded D) (meaning : N → Meaning D) (ask : Asks L N D) (g h : Graph) : Type 0 where
   pub graph : IsGraph h
   pub extends : ExtendsTo g h
-  pub asserts : AssertsMore (IsAskedBetween codes ask g h) g h
+  pub asserts : AssertsMore (IsAskedBetween codes meaning ask g h) g h
   pub lowers : LowersData codes meaning g h
   pub alone : (n : N) → IsAnalysisOf codes g n → AsksNothing (ask n) → HasSameClasses g h
 

@@ -5,6 +5,7 @@
 --     AddsSynBefore g h f a       the id of a node was found or made, and then other classes may have been modified
 --     UnitesAndModifies ..        two ids were united, and then classes were modified
 --     MergesAndModifies ..        a value was merged into the data of a class, and then classes were modified
+--     ExplainsAndModifies ..      two terms were added, each with what is asked then, and explained, which asserts nothing and modifies no class
 --     IfUnmodified m P            P, unless classes are modified
 --     LeavesAsked .. g h          what was there stays, data only went down, and nothing was asserted but what edits say
 use Rattle.std.specs.Prelude.{◌≡◌, ◌⊎◌, ℕ, List, Bool, IsSome, Option, true, false}
@@ -17,6 +18,7 @@ use Rattle.slotted_proofs.specs.Equations.{to_applied}
 use Rattle.slotted_analyses.specs.Meaning.{Meaning}
 use Rattle.slotted_operations.specs.Adding.{AddsSyn}
 use Rattle.slotted_operations.specs.AddingTerms.{FilesOnlyLookedUp}
+use Rattle.slotted_operations.specs.Explaining.{AddsTerms, KeepsKnown}
 use Rattle.slotted_operations.specs.Graph.{FilesOnlySubterms, Graph, RecordsUnion, id_of_term}
 use Rattle.slotted_operations.specs.Image.{IsUnion, asserted_in}
 use Rattle.slotted_operations.specs.LookUp.{HasSameClasses, IsOneGraph, MakesClassFor, look_up, look_up_term}
@@ -57,7 +59,7 @@ pub record AddsMore {N D : Type 0} (codes : Coded N × Coded D) (meaning : N →
 
 pub record LeavesAsked {L N D : Type 0} (codes : Coded N × Coded D) (meaning : N → Meaning D) (ask : Asks L N D) (g h : Graph) : Type 0 where
   pub extends : ExtendsTo g h
-  pub asserts : AssertsMore (IsAskedBetween codes ask g h) g h
+  pub asserts : AssertsMore (IsAskedBetween codes meaning ask g h) g h
   pub lowers : LowersData codes meaning g h
 
 pub record AddsAndModifies {L N D : Type 0} (codes : Coded N × Coded D) (meaning : N → Meaning D) (ask : Asks L N D) (modifies : Bool) (W : Graph → Graph → Type 0) (g h : Graph) : Type 0 where
@@ -89,3 +91,13 @@ pub record MergesAndModifies {L N D : Type 0} (codes : Coded N × Coded D) (mean
   pub same : HasSameClasses g merged
   pub asked : Bool
   pub rounds : IsModified codes meaning ask modifies merged h asked
+
+-- nothing is asked once both terms were added
+pub record ExplainsAndModifies {L N D : Type 0} (codes : Coded N × Coded D) (meaning : N → Meaning D) (ask : Asks L N D) (modifies : Bool) (t u : Term) (g h : Graph) : Type 0 where
+  pub first : Graph
+  pub left : AddsAndModifies codes meaning ask modifies (MakesForSynTerm t) g first
+  pub both : Graph
+  pub right : AddsAndModifies codes meaning ask modifies (MakesForSynTerm u) first both
+  pub adds : AddsTerms both.image h.image
+  pub kept : KeepsKnown both h t u
+  pub carries : CarriesData codes meaning both h

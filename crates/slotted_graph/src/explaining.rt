@@ -7,7 +7,7 @@ ghost use Rattle.slotted_operations.specs.Explaining.{AddsTerms, Explains, Files
 ghost use Rattle.slotted_operations.specs.Graph.{MakesAtMost};
 ghost use Rattle.slotted_operations.specs.Places.{term_slots};
 ghost use Rattle.slotted_graph.specs.Analysed.{CarriesData};
-ghost use Rattle.slotted_graph.specs.Writing.{IfUnmodified, LeavesAsked};
+ghost use Rattle.slotted_graph.specs.Writing.{ExplainsAndModifies, IfUnmodified, LeavesAsked};
 
 use crate::egraph::EGraph;
 use slotted_analyses::Analysis;
@@ -28,6 +28,8 @@ impl<L: Language, N: Analysis<L>> EGraph<L, N> {
         ensures explains { IfOk result (Explains self.new.image left.now right.now) }
         ensures not_equal { IsErrOf result Error.NotEqual → FindsApart self.new.image left.now right.now }
         ensures leaves { IsTrue self.new.failed ⊎ LeavesAsked N.codes N.meaning N.may_ask self.old self.new }
+        ensures modified { IsTrue self.new.failed
+            ⊎ ExplainsAndModifies N.codes N.meaning N.may_ask N.modifies left.now right.now self.old self.new }
         ensures stays { IsTrue self.old.failed → self.new ≡ self.old }
         ensures failed { IsErrOf result Error.Failed ↔ IsTrue self.old.failed }
         ensures fails { IsTrue self.new.failed ↔ (IsErr result × ¬ IsErrOf result Error.NotEqual) }
@@ -56,6 +58,11 @@ impl<L: Language, N: Analysis<L>> EGraph<L, N> {
         ensures explains { IfOk result (Explains self.new.image left.now right.now) }
         ensures not_equal { IsErrOf result Error.NotEqual → FindsApart self.new.image left.now right.now }
         ensures leaves { IsTrue self.new.failed ⊎ LeavesAsked N.codes N.meaning N.may_ask self.old self.new }
+
+        // If classes are modified, each term is added with the edits that are asked then. Once both are added, nothing
+        // is asked or asserted.
+        ensures modified { IsTrue N.modifies → IsTrue self.new.failed
+            ⊎ ExplainsAndModifies N.codes N.meaning N.may_ask N.modifies left.now right.now self.old self.new }
 
         // If classes are never modified, nothing is asserted, and ids that were found equal still are.
         ensures adds { IfUnmodified N.modifies (IsTrue self.new.failed ⊎ AddsTerms self.old.image self.new.image) }

@@ -1,7 +1,7 @@
 //! The answers of lines.
 use crate::calls::write_call;
 use crate::datum::Datum;
-use crate::graphs::{datum, has_number, joined, least, merge, parted, put};
+use crate::graphs::{datum, explained, has_number, joined, least, merge, parted, put};
 use crate::rebuilds::{rose, stood, write_last};
 use crate::units::apply_unit;
 use slotted_analyses::Analysis;
@@ -77,6 +77,7 @@ where
 {
     match word {
         "again" => Ok(put(graph, words)? == seen.id),
+        "explain" => explained(graph, words),
         "has" => has_number(graph, words.parse().unwrap_or(0)),
         "class" => Ok(graph.is_valid_id(Id(words.parse().unwrap_or(0)))),
         "failed" => Ok(graph.is_failed()),

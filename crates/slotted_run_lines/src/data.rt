@@ -9,6 +9,7 @@
 //! - `union T == U` and `quietly T == U` unite two terms. The latter modifies no class. `learn T: V` merges a value into
 //!   the data of a class.
 //! - `data T`, `least T` and `eq T == U` answer the data of a class, its least term, and whether two terms are equal.
+//! - `explain T == U` adds two terms and explains that they are equal.
 //! - `make T: V ..`, `merge V W` and `asks V` answer what an e-node makes over children with these data, the merge of
 //!   two data with its height, and how many edits are asked of a class.
 //! - `has N` and `class N` answer whether a number has a class, and whether there is a class of this number.

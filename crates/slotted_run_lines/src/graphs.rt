@@ -49,6 +49,18 @@ pub fn joined<N: Analysis<Small>>(
     join(graph, word, &l, &r)
 }
 
+/// Explains two terms. Returns that they are equal, or the error by which they are not explained.
+pub fn explained<N: Analysis<Small>>(
+    graph: &mut EGraph<Small, N>,
+    text: &str,
+) -> Result<bool, Error> {
+    let (left, right) = parted(text, " == ");
+    let l = graph.parse_expr(left)?;
+    let r = graph.parse_expr(right)?;
+    graph.explain_equivalence(&l, &r)?;
+    Ok(true)
+}
+
 /// Merges a value into the data of a term's class.
 pub fn merge<N: Analysis<Small>>(
     graph: &mut EGraph<Small, N>,

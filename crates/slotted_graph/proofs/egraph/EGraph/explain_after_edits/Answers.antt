@@ -2,7 +2,7 @@ use Rattle.std.proofs.Common.{inr}
 use Rattle.slotted_operations.proofs.CallerLemmas.{term_later}
 use Rattle.slotted_graph.proofs.Extending.{extends-then}
 use Rattle.slotted_graph.proofs.Insides.{given}
-use Rattle.slotted_graph.proofs.Writing.{asked-then, explained-after, explained-asked, was-well}
+use Rattle.slotted_graph.proofs.Writing.{asked-then, explained-after, explained-asked, explains-modified, was-well}
 use Rattle.slotted_graph.proofs.egraph.EGraph.explain_after_edits.Goals as goal
 
 pub add_syn_expr-requires-2 : goal.add_syn_expr-requires-2
@@ -31,3 +31,9 @@ returns-clause-leaves g c =
     let both = asked-then g.N.Analysis.codes g.N.Analysis.meaning g.met.N.Analysis.is_merge g.N.Analysis.may_ask c.args.self.now c.add_syn_expr.new.self c.add_syn_expr-2.new.self c.in_ok-add_syn_expr.ensures.leaves c.in_ok-add_syn_expr-2.ensures.leaves in
     explained-after g.N.Analysis.codes g.N.Analysis.meaning g.met.N.Analysis.is_merge g.N.Analysis.may_ask c.args.self.now c.add_syn_expr-2.new.self c.explain_quietly.new.self both
     (explained-asked g.N.Analysis.codes g.N.Analysis.meaning g.met.N.Analysis.is_merge g.N.Analysis.may_ask c.add_syn_expr-2.new.self c.explain_quietly.new.self e.adds e.more e.carries)
+
+pub returns-clause-modified : goal.returns-clause-modified
+returns-clause-modified g c =
+    let e = c.explain_quietly.ensures in
+    explains-modified g.N.Analysis.codes g.N.Analysis.meaning g.met.N.Analysis.is_merge g.N.Analysis.may_ask g.N.Analysis.modifies c.args.left.now c.args.right.now c.args.self.now c.add_syn_expr.new.self c.add_syn_expr-2.new.self c.explain_quietly.new.self
+    c.in_ok-add_syn_expr.ensures.modified c.in_ok-add_syn_expr-2.ensures.modified e.adds e.kept e.carries

@@ -1,4 +1,5 @@
 use Rattle.std.proofs.Common.{◌∙◌, sym}
+use Rattle.std.proofs.lemmas.Bool.{false≢true}
 use Rattle.slotted_graph.proofs.Writing.{explained-asked, is-modified, unmodified}
 use Rattle.slotted_graph.proofs.egraph.EGraph.explain_equivalence.Goals as goal
 
@@ -48,3 +49,9 @@ pub returns-clause-leaves : goal.returns-clause-leaves
 returns-clause-leaves g c =
     let e = c.explain_quietly.ensures in
     explained-asked g.N.Analysis.codes g.N.Analysis.meaning g.met.N.Analysis.is_merge g.N.Analysis.may_ask c.args.self.now c.explain_quietly.new.self e.adds e.more e.carries
+
+pub returns-then-modifies-clause-modified : goal.returns-then-modifies-clause-modified
+returns-then-modifies-clause-modified g c modified = c.explain_after_edits.ensures.modified
+
+pub returns-clause-modified : goal.returns-clause-modified
+returns-clause-modified g c modified = absurd (false≢true (sym (sym c.modifies.ensures ∙ c.if-modifies.false) ∙ modified))
