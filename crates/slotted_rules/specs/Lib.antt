@@ -32,3 +32,4 @@ pub mod Counted
 pub mod RunOrigins
 pub mod Resting
 pub mod Unless
+pub mod Texts

@@ -1,5 +1,7 @@
 //! Why runs stop, and what they report.
 
+use std::fmt;
+
 /// Why a run stops.
 #[derive(Drop, Debug, Clone)]
 pub enum StopReason<T = String> {
@@ -31,4 +33,36 @@ pub struct Report<T = String> {
     pub egraph_classes: usize,
     /// The time from the start to the end, in nanoseconds.
     pub total_time: u64,
+}
+
+/// Prints the name of the case, or the hook's own reason.
+impl<T: fmt::Display> fmt::Display for StopReason<T> {
+    ghost use Rattle.slotted_rules.specs.Texts.{reason_text};
+
+    ghost output = { λ r. reason_text T.output r };
+
+    fn fmt<W: fmt::Write>(&self, f: &mut fmt::Formatter<W>) -> fmt::Result {
+        match self {
+            StopReason::Saturated => f.write_str("Saturated"),
+            StopReason::IterationLimit => f.write_str("IterationLimit"),
+            StopReason::TimeLimit => f.write_str("TimeLimit"),
+            StopReason::NodeLimit => f.write_str("NodeLimit"),
+            StopReason::Other(reason) => write!(f, "{reason}"),
+        }
+    }
+}
+
+/// Prints the counts and the reason, as `2 turns, 8 e-nodes, 7 classes: Saturated`.
+impl<T: fmt::Display> fmt::Display for Report<T> {
+    ghost use Rattle.slotted_rules.specs.Texts.{report_text};
+
+    ghost output = { λ r. report_text T.output r };
+
+    fn fmt<W: fmt::Write>(&self, f: &mut fmt::Formatter<W>) -> fmt::Result {
+        let turns = self.iterations;
+        let nodes = self.egraph_nodes;
+        let classes = self.egraph_classes;
+        let reason = &self.stop_reason;
+        write!(f, "{turns} turns, {nodes} e-nodes, {classes} classes: {reason}")
+    }
 }

@@ -12,8 +12,9 @@ use crate::reading::{ReadsNames, missing};
 use slotted_languages::Language;
 use slotted_patterns::Pattern;
 use slotted_rule_patterns::pattern::{first_lacking, has_substitution};
-use slotted_slots::{Error, SlotTable};
+use slotted_slots::{Error, Show, SlotTable};
 use std::alloc::Global;
+use std::fmt;
 
 /// A written rule. If its left side is found and its condition holds, the right side becomes equal to what was found.
 #[derive(Drop, Debug)]
@@ -97,5 +98,25 @@ impl<L: Language> Rewrite<L, Always> {
         ensures err { IfErr result (AreRefused L.form L.read table.old table.new left.now right.now []) }
     {
         Rewrite::new_if(alloc, name, left, right, Always, table)
+    }
+}
+
+/// Prints the name and both sides, as `fuse: (map ?f (map ?g ?x)) => (map (both ?f ?g) ?x)`. `fmt::Error` if memory is
+/// refused.
+impl<L: Language, C> Show for Rewrite<L, C> {
+    ghost use Rattle.slotted_patterns.specs.Shown.{pattern_text};
+    ghost use Rattle.slotted_rules.specs.Texts.{rule_text};
+
+    ghost shown = { λ t r. Some (rule_text (pattern_text L.shown) t r) };
+
+    fn write_shown<W: fmt::Write>(
+        &self,
+        table: &SlotTable,
+        f: &mut fmt::Formatter<W>,
+    ) -> fmt::Result {
+        let name = &self.name;
+        let left = self.left.show(table);
+        let right = self.right.show(table);
+        write!(f, "{name}: {left} => {right}")
     }
 }
