@@ -1,7 +1,6 @@
 -- What a graph keeps by its analysis, told by its parts.
 use Rattle.std.proofs.Common.{◌≡◌, ◌<◌, ℕ, List, Bool, true, false, nat_eq, length, map, Option, Some, None, sym, ◌∙◌, ap, refl, subst, arith, inl, inr}
 use Rattle.std.proofs.lemmas.Bool.{ltb-true}
-use Rattle.std.proofs.lemmas.Option.{get_or_from_slice_get}
 use Rattle.std.specs.Prelude.{◌↔◌, ◌&&◌, Contains, Result, Ok, Err, IfOk, OnErr, count_by, nat_lt, slice_get}
 use Rattle.std.specs.Coded.{Coded}
 use Rattle.std.specs.List.{filter}
@@ -150,11 +149,13 @@ pub merges-data : {N D : Type 0} (codes : Coded N × Coded D) (meaning : N → M
 unfolding carries-data
 merges-data codes meaning n m law k r d e g h before after older newer filed rests i within v into = record {
   carries = carries-data codes meaning n m k r d g before older rests filed k r e h after newer (goes_on-same (state_in k r) rests.rest.sane.sound.linked) (merged-carried (by_bare_nodes (meaning n)) law k r i v d e into);
-  absorbs = λ y has.
-      let same = part-is codes n m e h newer has.part has.keeps in
-      let at : slice_get e.values (find_class (entries_of k) i) ≡ Some y =
-      ap (slice_get e.values) (sym (class-is codes meaning n m k r e h after newer i within)) ∙ (sym (ap (λ (p : Part _ _). slice_get p.values (class_found h.image i)) same) ∙ has.is) in
-      subst (λ z. Absorbs (by_bare_nodes (meaning n)) z v) (get_or_from_slice_get e.values (find_class (entries_of k) i) y y at) (into.absorbs y);
+  absorbs = record {
+    part = part_in n m e;
+    keeps = newer;
+    datum = data_in v e.values (find_class (entries_of k) i);
+    has = ap (slice_get e.values) (class-is codes meaning n m k r e h after newer i within) ∙ rest-has (by_bare_nodes (meaning n)) k r e into.rests i within v;
+    absorbs = into.absorbs v;
+  };
 }
 
 -- a class that leads to itself finds itself, told by tests

@@ -1,5 +1,5 @@
 -- What edits say, and that it stays said as a graph is extended.
-use Rattle.std.proofs.Common.{◌≡◌, ◌∙◌, ℕ, List, [], ◌∷◌, ◌++◌, length, append_assoc, ap, refl, sym, subst, inl, inr, arith, length-append}
+use Rattle.std.proofs.Common.{◌≡◌, ◌∙◌, ◌<◌, ℕ, List, [], ◌∷◌, ◌++◌, length, append_assoc, ap, refl, sym, subst, inl, inr, arith, length-append}
 use Rattle.std.specs.Prelude.{◌⊎◌, Bool, true, false, IsTrue, IsOk, IsErrOf, IfOk, IfErr, None, Result, Ok, Err, slice_index_or}
 use Rattle.std.specs.Coded.{Coded}
 use Rattle.std.proofs.lemmas.Bool.{false≢true}
@@ -31,7 +31,7 @@ use Rattle.slotted_analyses.specs.Edits.{IsValidEdit}
 use Rattle.slotted_model_analyses.specs.Analysis.{Absorbs}
 use Rattle.slotted_model_analyses.proofs.Absorbing.{absorbs-through}
 use Rattle.slotted_data.specs.Part.{NotesChanges, Part, part_code}
-use Rattle.slotted_graph.specs.Analysed.{CarriesData, DataFalls, LowersData, LowersPart}
+use Rattle.slotted_graph.specs.Analysed.{AbsorbsValue, CarriesData, DataFalls, LowersData, LowersPart}
 use Rattle.slotted_graph.specs.Extension.{Begins, ExtendsTo}
 use Rattle.slotted_operations.specs.Graph.{Graph, IsFullId, RecordsUnion}
 use Rattle.slotted_operations.specs.Image.{AddsClasses, FillApart, IsUnion, asserted_in}
@@ -39,6 +39,10 @@ use Rattle.slotted_graph.specs.States.{IsGraph}
 use Rattle.slotted_operations.specs.ValidIds.{IsValidId}
 use Rattle.slotted_graph.proofs.Extending.{between-longer, extends-added, extends-itself, extends-then, extends-united}
 use Rattle.slotted_graph.specs.Edited.{AddsTerm, AssertsMore, HasBareEntry, IsDone, IsIdOf, IsSaid, MakesEdit, UnitesIds}
+
+-- a table that knows more than one that knows more
+pub more-then : (t u v : Table) → KnowsMore t u → KnowsMore u v → KnowsMore t v
+more-then t u v first second s known = second s (first s known)
 
 -- data that was carried along only went down
 pub carried-lowers : {N D : Type 0} (codes : Coded N × Coded D) (meaning : N → Meaning D) (g h : Graph) → CarriesData codes meaning g h → LowersData codes meaning g h
@@ -100,6 +104,20 @@ carries-then {N} {D} codes meaning law f g h extends a b =
       notes = λ d. notes-then a.older.values b.older.values b.newer.values a.older.changed b.older.changed b.newer.changed
           (subst (λ (q : Part N D). NotesChanges a.older.values a.older.changed q.values q.changed) same (a.notes d)) (b.notes d);
       counts = subst (λ (q : Part N D). CountsGo a.older.counts.own q.counts.own) last both.counts;
+    }
+
+-- what absorbs a value absorbs it later
+pub absorbs-later : {N D : Type 0} (codes : Coded N × Coded D) (meaning : N → Meaning D) (law : (n : N) → IsMergeOf (meaning n)) (g h : Graph) (i : ℕ) (v : D) → i < length g.image.canonical → LowersData codes meaning g h → AbsorbsValue codes meaning g i v → AbsorbsValue codes meaning h i v
+absorbs-later {N} {D} codes meaning law g h i v within lowers a =
+    let l = lowers a.part a.keeps in
+    let y = l.falls i within a.datum a.has in
+    let m = meaning a.part.analysis in
+    record {
+      part = l.newer;
+      keeps = l.after;
+      datum = y.0;
+      has = y.1;
+      absorbs = subst (λ (n : N). Absorbs (by_bare_nodes (meaning n)) y.0 v) (sym l.analysis) (absorbs-through (by_bare_nodes m) (law a.part.analysis).associative y.0 a.datum v y.2 a.absorbs);
     }
 
 -- a call that did not refuse leaves a graph

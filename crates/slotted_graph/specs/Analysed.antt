@@ -8,7 +8,8 @@
 --     CountsPending codes g n        so many live classes wait to be modified
 --     LowersData codes meaning g h   data only went down, and the analysis and the limit of rounds are the same
 --     CarriesData codes meaning g h  from g to h data only went down, and what was made or has changed waits to be modified
---     MergesData ..                  the same, and the class that i finds has data that absorbs v
+--     AbsorbsValue codes meaning h i v    the class that i finds has data that merging v changes nothing of
+--     MergesData ..                  data was carried along so, and the class that i finds has data that absorbs v
 --     TakesPending codes g h is      from g to h the live classes that waited were taken, and these are they, ascending
 use Rattle.std.specs.Prelude.{◌≡◌, ◌<◌, ℕ, List, [], length, Bool, ◌&&◌, count_by, map, nat_lt, slice_get, slice_index_or, Some, Contains}
 use Rattle.std.specs.Coded.{Coded}
@@ -113,9 +114,16 @@ pub record CarriesData {N D : Type 0} (codes : Coded N × Coded D) (meaning : N 
   pub notes : D → NotesChanges older.values older.changed newer.values newer.changed
   pub counts : CountsGo older.counts.own newer.counts.own
 
+pub record AbsorbsValue {N D : Type 0} (codes : Coded N × Coded D) (meaning : N → Meaning D) (h : Graph) (i : ℕ) (v : D) : Type 0 where
+  pub part : Part N D
+  pub keeps : KeepsPart codes h part
+  pub datum : D
+  pub has : HasDatumIn h part i datum
+  pub absorbs : Absorbs (by_bare_nodes (meaning part.analysis)) datum v
+
 pub record MergesData {N D : Type 0} (codes : Coded N × Coded D) (meaning : N → Meaning D) (g h : Graph) (i : ℕ) (v : D) : Type 0 where
   pub carries : CarriesData codes meaning g h
-  pub absorbs : (y : D) → HasData codes h i y → Absorbs (by_bare_nodes (meaning carries.older.analysis)) y v
+  pub absorbs : AbsorbsValue codes meaning h i v
 
 -- no class waited twice, the live ones of those that waited are taken, ascending, and nothing else of what is kept has changed
 pub record TakesPending {N D : Type 0} (codes : Coded N × Coded D) (g h : Graph) (taken : List ℕ) : Type 0 where

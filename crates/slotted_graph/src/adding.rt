@@ -36,6 +36,7 @@ impl<L: Language, N: Analysis<L>> EGraph<L, N> {
         ensures found { IfOk result (λ a. IsFound self.new (to_applied a)) }
         ensures equal { IfOk result (λ a. IsEqualToNode self.new.image (to_applied a) (L.form node.now)) }
         ensures adds { OnOk result (AddsAndModifies N.codes N.meaning N.may_ask N.modifies (MakesForNode (L.form node.now)) self.old self.new) }
+        ensures more { KnowsMore self.old.table self.new.table }
         ensures stays { IsTrue self.old.failed → self.new ≡ self.old }
         ensures failed { IsErrOf result Error.Failed ↔ IsTrue self.old.failed }
         ensures fails { IsTrue self.new.failed ↔ IsErr result }
@@ -70,7 +71,7 @@ impl<L: Language, N: Analysis<L>> EGraph<L, N> {
         ensures leaves { OnOk result (LeavesAsked N.codes N.meaning N.may_ask self.old self.new) }
         ensures modified { OnOk result (AddsAndModifies N.codes N.meaning N.may_ask N.modifies (MakesForNode (L.form node)) self.old self.new) }
         ensures extends { OnOk result (Extends self.old.image.canonical self.new.image.canonical) }
-        ensures more { IfUnmodified N.modifies (KnowsMore self.old.table self.new.table) }
+        ensures more { KnowsMore self.old.table self.new.table }
 
         // If classes are never modified, a class is added only if there was no answer, and no other class is added.
         // What `find` maps ids to stays, and so does what was looked up.
@@ -106,6 +107,7 @@ impl<L: Language, N: Analysis<L>> EGraph<L, N> {
         ensures valid { IfOk result (λ a. IsFullId self.new (to_applied a)) }
         ensures stands { IfOk result (λ a. AddsSynBefore self.old self.new (L.form node.now) (to_applied a)) }
         ensures adds { OnOk result (AddsAndModifies N.codes N.meaning N.may_ask N.modifies (MakesForSynNode (L.form node.now)) self.old self.new) }
+        ensures more { KnowsMore self.old.table self.new.table }
         ensures stays { IsTrue self.old.failed → self.new ≡ self.old }
         ensures failed { IsErrOf result Error.Failed ↔ IsTrue self.old.failed }
         ensures fails { IsTrue self.new.failed ↔ IsErr result }
@@ -134,7 +136,7 @@ impl<L: Language, N: Analysis<L>> EGraph<L, N> {
         ensures leaves { OnOk result (LeavesAsked N.codes N.meaning N.may_ask self.old self.new) }
         ensures modified { OnOk result (AddsAndModifies N.codes N.meaning N.may_ask N.modifies (MakesForSynNode (L.form node)) self.old self.new) }
         ensures extends { OnOk result (Extends self.old.image.canonical self.new.image.canonical) }
-        ensures more { IfUnmodified N.modifies (KnowsMore self.old.table self.new.table) }
+        ensures more { KnowsMore self.old.table self.new.table }
 
         // If classes are never modified, and a class is added, fresh slots are made for its names, and for those that
         // children omit.
@@ -170,6 +172,7 @@ impl<L: Language, N: Analysis<L>> EGraph<L, N> {
         ensures found { IfOk result (λ a. IsFound self.new (to_applied a)) }
         ensures equal { IfOk result (λ a. IsEqualToTerm self.new.image (to_applied a) term.now) }
         ensures adds { OnOk result (AddsAndModifies N.codes N.meaning N.may_ask N.modifies (MakesForTerm term.now) self.old self.new) }
+        ensures more { KnowsMore self.old.table self.new.table }
         ensures stays { IsTrue self.old.failed → self.new ≡ self.old }
         ensures failed { IsErrOf result Error.Failed ↔ IsTrue self.old.failed }
         ensures fails { IsTrue self.new.failed ↔ IsErr result }
@@ -205,7 +208,7 @@ impl<L: Language, N: Analysis<L>> EGraph<L, N> {
         ensures leaves { OnOk result (LeavesAsked N.codes N.meaning N.may_ask self.old self.new) }
         ensures modified { OnOk result (AddsAndModifies N.codes N.meaning N.may_ask N.modifies (MakesForTerm term.now) self.old self.new) }
         ensures extends { OnOk result (Extends self.old.image.canonical self.new.image.canonical) }
-        ensures more { IfUnmodified N.modifies (KnowsMore self.old.table self.new.table) }
+        ensures more { KnowsMore self.old.table self.new.table }
 
         // If classes are never modified, and a look-up of the term has an answer, nothing changes. If not, the term's
         // e-nodes are added from below. A look-up of some subterm answers each new class. What `find` maps ids to
@@ -244,6 +247,7 @@ impl<L: Language, N: Analysis<L>> EGraph<L, N> {
         ensures term { IfOk result (λ a. term_of self.new.image.canonical (to_applied a) ≡ nameless term.now) }
         ensures found { IfOk result (λ a. id_of_term self.new term.now ≡ Some (to_applied a)) }
         ensures adds { OnOk result (AddsAndModifies N.codes N.meaning N.may_ask N.modifies (MakesForSynTerm term.now) self.old self.new) }
+        ensures more { KnowsMore self.old.table self.new.table }
         ensures stays { IsTrue self.old.failed → self.new ≡ self.old }
         ensures failed { IsErrOf result Error.Failed ↔ IsTrue self.old.failed }
         ensures fails { IsTrue self.new.failed ↔ IsErr result }
@@ -272,7 +276,7 @@ impl<L: Language, N: Analysis<L>> EGraph<L, N> {
         ensures leaves { OnOk result (LeavesAsked N.codes N.meaning N.may_ask self.old self.new) }
         ensures modified { OnOk result (AddsAndModifies N.codes N.meaning N.may_ask N.modifies (MakesForSynTerm term.now) self.old self.new) }
         ensures extends { OnOk result (Extends self.old.image.canonical self.new.image.canonical) }
-        ensures more { IfUnmodified N.modifies (KnowsMore self.old.table self.new.table) }
+        ensures more { KnowsMore self.old.table self.new.table }
 
         // If classes are never modified, and the term has an id, nothing changes. A look-up of some subterm answers
         // each new class.

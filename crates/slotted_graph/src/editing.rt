@@ -1,6 +1,7 @@
 //! Edits of a class.
 ghost use Rattle.std.specs.Prelude.{◌≡◌, ◌⊎◌, ◌↔◌, All, IsErr, IsErrOf, IsTrue, IfErr, IfOk, OnOk};
 ghost use Rattle.slotted_slots.specs.Error.{IsShortage};
+ghost use Rattle.slotted_slots.specs.Table.{KnowsMore};
 ghost use Rattle.slotted_proofs.specs.Equations.{to_applied};
 ghost use Rattle.slotted_terms.specs.Valid.{IsValidTerm};
 ghost use Rattle.slotted_analyses.specs.Edits.{IsValidEdit};
@@ -23,6 +24,7 @@ fn add_term<L: Language, N: Analysis<L>>(
     requires graph { IsGraph graph.old }
     requires term { IsValidTerm graph.old.table term.now }
     ensures ok { IfOk result (λ a. AddsTerm N.codes N.meaning graph.old graph.new term.now (to_applied a)) }
+    ensures more { KnowsMore graph.old.table graph.new.table }
     ensures fails { IsTrue graph.new.failed ↔ IsErr result }
     ensures err { IfErr result IsShortage }
 {
@@ -42,6 +44,7 @@ fn unite<L: Language, N: Analysis<L>>(
     requires left { IsValidId graph.old (to_applied left.now) }
     requires right { IsValidId graph.old (to_applied right.now) }
     ensures ok { OnOk result (UnitesIds N.codes N.meaning graph.old graph.new (to_applied left.now) (to_applied right.now)) }
+    ensures table { graph.new.table ≡ graph.old.table }
     ensures fails { IsTrue graph.new.failed ↔ IsErr result }
     ensures err { IfErr result IsShortage }
 {
@@ -62,6 +65,7 @@ fn equate<L: Language, N: Analysis<L>>(
     requires left { IsValidTerm graph.old.table left.now }
     requires right { IsValidTerm graph.old.table right.now }
     ensures ok { OnOk result (MakesEdit {L = L} N.codes N.meaning graph.old graph.new (to_applied class.now) (Equate left.now right.now)) }
+    ensures more { KnowsMore graph.old.table graph.new.table }
     ensures fails { IsTrue graph.new.failed ↔ IsErr result }
     ensures err { IfErr result IsShortage }
 {
@@ -79,6 +83,9 @@ pub fn make_edit<L: Language, N: Analysis<L>>(
     requires class { IsTrue graph.old.failed ⊎ IsValidId graph.old (to_applied class.now) }
     requires edit { IsTrue graph.old.failed ⊎ IsValidEdit graph.old.table edit.now }
     ensures ok { OnOk result (MakesEdit N.codes N.meaning graph.old graph.new (to_applied class.now) edit.now) }
+
+    // Slots that were known still are, also if the edit is refused.
+    ensures more { KnowsMore graph.old.table graph.new.table }
 
     ensures stays { IsTrue graph.old.failed → graph.new ≡ graph.old }
     ensures failed { IsErrOf result Error.Failed ↔ IsTrue graph.old.failed }
@@ -112,6 +119,7 @@ pub(crate) fn make_edits<L: Language, N: Analysis<L>>(
     requires edits { All (IsValidEdit graph.old.table) edits.now }
     ensures ok { OnOk result (MakesEdits N.codes N.meaning graph.old (to_applied class.now) edits.now graph.new) }
     ensures graph { OnOk result (IsGraph graph.new) }
+    ensures more { KnowsMore graph.old.table graph.new.table }
     ensures fails { IsTrue graph.new.failed ↔ IsErr result }
     ensures err { IfErr result IsShortage }
 {

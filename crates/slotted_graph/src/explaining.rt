@@ -30,6 +30,7 @@ impl<L: Language, N: Analysis<L>> EGraph<L, N> {
         ensures leaves { IsTrue self.new.failed ⊎ LeavesAsked N.codes N.meaning N.may_ask self.old self.new }
         ensures modified { IsTrue self.new.failed
             ⊎ ExplainsAndModifies N.codes N.meaning N.may_ask N.modifies left.now right.now self.old self.new }
+        ensures more { KnowsMore self.old.table self.new.table }
         ensures stays { IsTrue self.old.failed → self.new ≡ self.old }
         ensures failed { IsErrOf result Error.Failed ↔ IsTrue self.old.failed }
         ensures fails { IsTrue self.new.failed ↔ (IsErr result × ¬ IsErrOf result Error.NotEqual) }
@@ -63,6 +64,7 @@ impl<L: Language, N: Analysis<L>> EGraph<L, N> {
         // is asked or asserted.
         ensures modified { IsTrue N.modifies → IsTrue self.new.failed
             ⊎ ExplainsAndModifies N.codes N.meaning N.may_ask N.modifies left.now right.now self.old self.new }
+        ensures more { KnowsMore self.old.table self.new.table }
 
         // If classes are never modified, nothing is asserted, and ids that were found equal still are.
         ensures adds { IfUnmodified N.modifies (IsTrue self.new.failed ⊎ AddsTerms self.old.image self.new.image) }
@@ -71,7 +73,6 @@ impl<L: Language, N: Analysis<L>> EGraph<L, N> {
         // class is added.
         ensures filed { IfUnmodified N.modifies (IsTrue self.new.failed ⊎ FilesOnlyTerms self.old self.new left.now right.now) }
         ensures kept { IfUnmodified N.modifies (IsTrue self.new.failed ⊎ KeepsKnown self.old self.new left.now right.now) }
-        ensures more { IfUnmodified N.modifies (KnowsMore self.old.table self.new.table) }
         ensures takes { IfUnmodified N.modifies
             (MakesAtMost (term_slots left.now + term_slots right.now) self.old.table self.new.table) }
         ensures full { IfUnmodified N.modifies (IsErrOf result Error.OutOfSlots

@@ -1,8 +1,9 @@
 //! Merging values into the data of classes.
 ghost use Rattle.std.specs.Prelude.{◌≡◌, ◌⊎◌, ◌↔◌, ◌<◌, length, IsTrue, IfErr, IsErr, IsErrOf, OnOk};
 ghost use Rattle.slotted_slots.specs.Error.{IsShortage};
+ghost use Rattle.slotted_slots.specs.Table.{KnowsMore};
 ghost use Rattle.slotted_operations.specs.LookUp.{HasSameClasses};
-ghost use Rattle.slotted_graph.specs.Analysed.{MergesData};
+ghost use Rattle.slotted_graph.specs.Analysed.{AbsorbsValue, MergesData};
 ghost use Rattle.slotted_graph.specs.Writing.{IfUnmodified, LeavesAsked, MergesAndModifies};
 
 use crate::egraph::EGraph;
@@ -20,11 +21,14 @@ impl<L: Language, N: Analysis<L>> EGraph<L, N> {
         // asserted.
         ensures modified { OnOk result
             (MergesAndModifies N.codes N.meaning N.may_ask N.modifies self.old self.new id.0 value.now) }
+        ensures absorbs { OnOk result (AbsorbsValue N.codes N.meaning self.new id.0 value.now) }
         ensures leaves { OnOk result (LeavesAsked N.codes N.meaning N.may_ask self.old self.new) }
+        ensures more { KnowsMore self.old.table self.new.table }
 
-        // If classes are never modified, only data changes.
+        // If classes are never modified, only data changes, and no slot is wanted.
         ensures merges { IfUnmodified N.modifies (OnOk result (MergesData N.codes N.meaning self.old self.new id.0 value.now)) }
         ensures same { IfUnmodified N.modifies (OnOk result (HasSameClasses self.old self.new)) }
+        ensures full { IfUnmodified N.modifies (¬ IsErrOf result Error.OutOfSlots) }
 
         ensures stays { IsTrue self.old.failed → self.new ≡ self.old }
         ensures failed { IsErrOf result Error.Failed ↔ IsTrue self.old.failed }

@@ -1,6 +1,7 @@
 //! Making the edits that an analysis asks for a class.
 ghost use Rattle.std.specs.Prelude.{◌≡◌, ◌⊎◌, ◌↔◌, true, IsErr, IsErrOf, IsOk, IsTrue, IfErr, IfOk};
 ghost use Rattle.slotted_slots.specs.Error.{IsShortage};
+ghost use Rattle.slotted_slots.specs.Table.{KnowsMore};
 ghost use Rattle.slotted_graph.specs.States.{IsGraph};
 ghost use Rattle.slotted_graph.specs.Asked.{IsLiveIn};
 ghost use Rattle.slotted_graph.specs.Rounds.{LeavesModified, ModifiesClass};
@@ -20,6 +21,7 @@ fn failing<L: Language, N: Analysis<L>>(
     ensures same { result ≡ answer }
     ensures fails { IsErr answer → graph.new ≡ record graph.old { failed = true } }
     ensures stays { IsOk answer → graph.new ≡ graph.old }
+    ensures table { graph.new.table ≡ graph.old.table }
 {
     if answer.is_err() {
         graph.fail();
@@ -37,6 +39,7 @@ fn modify_live<L: Language, N: Analysis<L>>(
     requires lives { IsLiveIn graph.old id.0 }
     ensures ok { IfOk result (λ y. ModifiesClass N.codes N.meaning N.may_ask graph.old id.0 graph.new y) }
     ensures well { IfOk result (λ y. IsGraph graph.new) }
+    ensures more { KnowsMore graph.old.table graph.new.table }
     ensures err { IfErr result IsShortage }
 {
     let class = graph.mk_identity_applied_id(id)?;
@@ -60,6 +63,9 @@ pub fn modify_class<L: Language, N: Analysis<L>>(
 
     // What was there stays, and only what edits say is asserted. This follows from the clauses before.
     ensures leaves { IfOk result (λ y. LeavesModified N.codes N.meaning N.may_ask graph.old graph.new) }
+
+    // Slots that were known still are, also if the call is refused.
+    ensures more { KnowsMore graph.old.table graph.new.table }
 
     ensures stays { IsTrue graph.old.failed → graph.new ≡ graph.old }
     ensures failed { IsErrOf result Error.Failed ↔ IsTrue graph.old.failed }

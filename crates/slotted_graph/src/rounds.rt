@@ -1,6 +1,7 @@
 //! Rounds over the classes that wait to be modified.
 ghost use Rattle.std.specs.Prelude.{◌≡◌, ◌⊎◌, ◌↔◌, IsErr, IsErrOf, IsTrue, IfErr, IfOk};
 ghost use Rattle.slotted_slots.specs.Error.{IsShortage};
+ghost use Rattle.slotted_slots.specs.Table.{KnowsMore};
 ghost use Rattle.slotted_operations.specs.Reports.{class_numbers};
 ghost use Rattle.slotted_graph.specs.States.{IsGraph};
 ghost use Rattle.slotted_graph.specs.Rounds.{LeavesModified, MakesRounds, Modifies, TakesRound};
@@ -21,6 +22,7 @@ fn modify_each<L: Language, N: Analysis<L>>(
     requires { IsGraph graph.old }
     ensures modifies { IfOk result (λ y. Modifies N.codes N.meaning N.may_ask graph.old (class_numbers ids.now) graph.new y) }
     ensures well { IfOk result (λ y. IsGraph graph.new) }
+    ensures more { KnowsMore graph.old.table graph.new.table }
     ensures fails { IsTrue graph.new.failed ↔ IsErr result }
     ensures err { IfErr result IsShortage }
 {
@@ -43,6 +45,9 @@ pub fn modify_once<L: Language, N: Analysis<L>>(
 
     // What was there stays, and only what edits say is asserted. This follows from the clauses before.
     ensures leaves { IfOk result (λ y. LeavesModified N.codes N.meaning N.may_ask graph.old graph.new) }
+
+    // Slots that were known still are, also if the call is refused.
+    ensures more { KnowsMore graph.old.table graph.new.table }
 
     ensures stays { IsTrue graph.old.failed → graph.new ≡ graph.old }
     ensures failed { IsErrOf result Error.Failed ↔ IsTrue graph.old.failed }
@@ -69,6 +74,9 @@ pub fn modify_in_rounds<L: Language, N: Analysis<L>>(
 
     // What was there stays, and only what edits say is asserted. This follows from the clauses before.
     ensures leaves { IfOk result (λ y. LeavesModified N.codes N.meaning N.may_ask graph.old graph.new) }
+
+    // Slots that were known still are, also if the call is refused.
+    ensures more { KnowsMore graph.old.table graph.new.table }
 
     ensures stays { IsTrue graph.old.failed → graph.new ≡ graph.old }
     ensures failed { IsErrOf result Error.Failed ↔ IsTrue graph.old.failed }

@@ -1,6 +1,7 @@
 //! Uniting ids.
 ghost use Rattle.std.specs.Prelude.{◌≡◌, ◌⊎◌, ◌↔◌, None, false, IsErr, IsErrOf, IsTrue, IfErr, IfOk, OnOk};
 ghost use Rattle.slotted_slots.specs.Error.{IsShortage};
+ghost use Rattle.slotted_slots.specs.Table.{KnowsMore};
 ghost use Rattle.slotted_proofs.specs.Equations.{to_applied};
 ghost use Rattle.slotted_classes.specs.Kept.{text_bytes};
 ghost use Rattle.slotted_operations.specs.Causes.{HasLargeClassIn};
@@ -30,6 +31,7 @@ impl<L: Language, N: Analysis<L>> EGraph<L, N> {
         requires right { IsTrue self.old.failed ⊎ IsValidId self.old (to_applied r.now) }
         ensures unites { IfOk result
             (UnitesAndModifies N.codes N.meaning N.may_ask N.modifies self.old self.new l.now r.now (text_bytes text)) }
+        ensures more { KnowsMore self.old.table self.new.table }
         ensures stays { IsTrue self.old.failed → self.new ≡ self.old }
         ensures failed { IsErrOf result Error.Failed ↔ IsTrue self.old.failed }
         ensures fails { IsTrue self.new.failed ↔ IsErr result }
@@ -55,6 +57,7 @@ impl<L: Language, N: Analysis<L>> EGraph<L, N> {
             (UnitesAndModifies N.codes N.meaning N.may_ask N.modifies self.old self.new l.now r.now None) }
         ensures answer { IfOk result (λ y. IsTrue y ↔ (¬ FoundAlike self.old.image (to_applied l.now) (to_applied r.now))) }
         ensures extends { OnOk result (ExtendsTo self.old self.new) }
+        ensures more { KnowsMore self.old.table self.new.table }
 
         // If classes are never modified, this is the whole change.
         ensures union { IfUnmodified N.modifies (IfOk result (IsUnion self.old.image self.new.image (to_applied l.now) (to_applied r.now))) }
@@ -94,9 +97,11 @@ impl<L: Language, N: Analysis<L>> EGraph<L, N> {
         ensures unites { IfOk result
             (UnitesAndModifies N.codes N.meaning N.may_ask N.modifies self.old self.new l.now r.now (text_bytes text)) }
 
-        // The answer is true if `eq` answered false before. What was there stays.
+        // The answer is true if `eq` answered false before. What was there stays, and slots that were known still are
+        // also if the union is refused.
         ensures answer { IfOk result (λ y. IsTrue y ↔ (¬ FoundAlike self.old.image (to_applied l.now) (to_applied r.now))) }
         ensures extends { OnOk result (ExtendsTo self.old self.new) }
+        ensures more { KnowsMore self.old.table self.new.table }
 
         // If classes are never modified, this is the whole change.
         ensures union { IfUnmodified N.modifies (IfOk result (IsUnion self.old.image self.new.image (to_applied l.now) (to_applied r.now))) }

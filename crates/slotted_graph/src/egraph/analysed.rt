@@ -1,10 +1,12 @@
 //! The analysis of a graph, and the data of its classes.
 ghost use Rattle.std.specs.Prelude.{◌≡◌, ◌⊎◌, ◌↔◌, ◌<◌, false, length, IsTrue, IfErr, IfOk, IsErr, IsErrOf, OnOk};
 ghost use Rattle.slotted_slots.specs.Error.{IsOutOfMemory, IsShortage};
+ghost use Rattle.slotted_slots.specs.Table.{KnowsMore};
 ghost use Rattle.slotted_operations.specs.Reports.{HasClass, class_numbers};
 ghost use Rattle.slotted_operations.specs.LookUp.{HasSameClasses};
 ghost use Rattle.slotted_graph.specs.Analysed.{AbsorbsMade, CountsPending, HasData, HasRounds, IsAnalysisOf, MergesData, SetsRounds, TakesPending};
 ghost use Rattle.slotted_graph.specs.Rounds.{IsModified};
+ghost use Rattle.slotted_graph.specs.Writing.{IfUnmodified};
 
 use super::EGraph;
 use crate::rounds::modify_in_rounds;
@@ -54,6 +56,7 @@ impl<L: Language, N: Analysis<L>> EGraph<L, N> {
         // Data is only lowered, and merging the value again changes nothing.
         ensures merges { OnOk result (MergesData N.codes N.meaning self.old self.new id.0 value.now) }
         ensures same { OnOk result (HasSameClasses self.old self.new) }
+        ensures table { self.new.table ≡ self.old.table }
 
         ensures stays { IsTrue self.old.failed → self.new ≡ self.old }
         ensures failed { IsErrOf result Error.Failed ↔ IsTrue self.old.failed }
@@ -104,6 +107,7 @@ impl<L: Language, N: Analysis<L>> EGraph<L, N> {
     pub fn take_pending(&mut self) -> Result<Vec<Id>, Error>
         ensures taken { IfOk result (λ v. TakesPending N.codes self.old self.new (class_numbers v.items)) }
         ensures same { OnOk result (HasSameClasses self.old self.new) }
+        ensures table { self.new.table ≡ self.old.table }
 
         ensures stays { IsTrue self.old.failed → self.new ≡ self.old }
         ensures failed { IsErrOf result Error.Failed ↔ IsTrue self.old.failed }
@@ -141,6 +145,10 @@ impl<L: Language, N: Analysis<L>> EGraph<L, N> {
     /// classes, nothing is done.
     pub fn modify(&mut self) -> Result<bool, Error>
         ensures modified { IfOk result (IsModified N.codes N.meaning N.may_ask N.modifies self.old self.new) }
+
+        // Slots that were known still are, also if the call is refused.
+        ensures more { KnowsMore self.old.table self.new.table }
+        ensures unmodified { IfUnmodified N.modifies (IfErr result (λ e. e ≡ Error.Failed)) }
 
         ensures stays { IsTrue self.old.failed → self.new ≡ self.old }
         ensures failed { IsErrOf result Error.Failed ↔ IsTrue self.old.failed }

@@ -4,7 +4,7 @@ use Rattle.slotted_analyses.specs.Edits.{IsValidEdit}
 use Rattle.slotted_proofs.specs.Equations.{to_applied}
 use Rattle.slotted_graph.specs.Edited.{MakesEdit, MakesEdits, all_made, then_edit}
 use Rattle.slotted_graph.proofs.Leaving.{edits-extend}
-use Rattle.slotted_graph.proofs.Saying.{edit-later}
+use Rattle.slotted_graph.proofs.Saying.{edit-later, more-then}
 use Rattle.slotted_graph.proofs.editing.make_edits.Goals as goal
 
 pub loop-edit-init : goal.loop-edit-init
@@ -32,3 +32,10 @@ loop-edit-preserved g c =
       subst (λ xs. MakesEdits codes meaning c.args.graph.now class xs c.make_edit.new.graph) (sym (take_more es i e c.loop-edit-test.true))
           (then_edit c.loop-edit.invariant.1 (subst (MakesEdit codes meaning c.loop-edit.graph c.make_edit.new.graph class) c.edit-item.is one)),
     )
+
+pub returns-in_err-make_edit-clause-more : goal.returns-in_err-make_edit-clause-more
+returns-in_err-make_edit-clause-more g c =
+    more-then c.args.graph.now.table c.loop-edit.graph.table c.make_edit.new.graph.table (edits-extend g.N.Analysis.codes g.N.Analysis.meaning c.loop-edit.invariant.1).more c.make_edit.ensures.more
+
+pub returns-clause-more : goal.returns-clause-more
+returns-clause-more g c = (edits-extend g.N.Analysis.codes g.N.Analysis.meaning c.loop-edit.invariant.1).more

@@ -4,7 +4,8 @@ use Rattle.std.proofs.lemmas.List.{take_more}
 use Rattle.slotted_operations.proofs.Graphs.Reports.{numbers-then}
 use Rattle.slotted_operations.specs.Reports.{class_numbers}
 use Rattle.slotted_graph.specs.Rounds.{all_modified}
-use Rattle.slotted_graph.proofs.Leaving.{each-then}
+use Rattle.slotted_graph.proofs.Leaving.{each-leaves, each-then}
+use Rattle.slotted_graph.proofs.Saying.{more-then}
 use Rattle.slotted_graph.proofs.rounds.modify_each.Goals.{then-branch, else-branch}
 use Rattle.slotted_graph.proofs.rounds.modify_each.Goals as goal
 
@@ -25,3 +26,11 @@ loop-id-preserved g c =
             | else-branch w ↦ w.asked-is ∙ sym (ap (λ b. b || y) w.if-branch.false)
           ]),
     )
+
+pub returns-in_err-modify_class-clause-more : goal.returns-in_err-modify_class-clause-more
+returns-in_err-modify_class-clause-more g c =
+    let before = each-leaves g.N.Analysis.codes g.N.Analysis.meaning g.met.N.Analysis.is_merge g.N.Analysis.may_ask c.requires c.loop-id.invariant.1 in
+    more-then c.args.graph.now.table c.loop-id.graph.table c.modify_class.new.graph.table before.extends.more c.modify_class.ensures.more
+
+pub returns-clause-more : goal.returns-clause-more
+returns-clause-more g c = (each-leaves g.N.Analysis.codes g.N.Analysis.meaning g.met.N.Analysis.is_merge g.N.Analysis.may_ask c.requires c.loop-id.invariant.1).extends.more

@@ -3,6 +3,7 @@ use Rattle.std.specs.Prelude.{◌||◌}
 use Rattle.slotted_graph.proofs.Insides.{given}
 use Rattle.slotted_graph.specs.Rounds.{no_rounds}
 use Rattle.slotted_graph.proofs.Leaving.{rounds-leave, rounds-then, some-wait}
+use Rattle.slotted_graph.proofs.Saying.{more-then}
 use Rattle.slotted_graph.proofs.rounds.modify_in_rounds.Goals.{then-branch, else-branch}
 use Rattle.slotted_graph.proofs.rounds.modify_in_rounds.Goals as goal
 
@@ -32,3 +33,14 @@ loop-preserved g c =
 
 pub returns-clause-leaves : goal.returns-clause-leaves
 returns-clause-leaves g c = rounds-leave g.N.Analysis.codes g.N.Analysis.meaning g.met.N.Analysis.is_merge g.N.Analysis.may_ask c.loop.invariant.0 c.loop.invariant.2
+
+pub returns-then-pending_classes-eq0-clause-more : goal.returns-then-pending_classes-eq0-clause-more
+returns-then-pending_classes-eq0-clause-more g c = (rounds-leave g.N.Analysis.codes g.N.Analysis.meaning g.met.N.Analysis.is_merge g.N.Analysis.may_ask c.loop.invariant.0 c.loop.invariant.2).extends.more
+
+pub returns-in_err-modify_once-clause-more : goal.returns-in_err-modify_once-clause-more
+returns-in_err-modify_once-clause-more g c =
+    let before = rounds-leave g.N.Analysis.codes g.N.Analysis.meaning g.met.N.Analysis.is_merge g.N.Analysis.may_ask c.loop.invariant.0 c.loop.invariant.2 in
+    more-then c.args.graph.now.table c.loop.graph.table c.modify_once.new.graph.table before.extends.more c.modify_once.ensures.more
+
+pub returns-clause-more : goal.returns-clause-more
+returns-clause-more g c = (rounds-leave g.N.Analysis.codes g.N.Analysis.meaning g.met.N.Analysis.is_merge g.N.Analysis.may_ask c.loop.invariant.0 c.loop.invariant.2).extends.more

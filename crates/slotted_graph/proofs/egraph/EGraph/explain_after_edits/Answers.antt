@@ -37,3 +37,6 @@ returns-clause-modified g c =
     let e = c.explain_quietly.ensures in
     explains-modified g.N.Analysis.codes g.N.Analysis.meaning g.met.N.Analysis.is_merge g.N.Analysis.may_ask g.N.Analysis.modifies c.args.left.now c.args.right.now c.args.self.now c.add_syn_expr.new.self c.add_syn_expr-2.new.self c.explain_quietly.new.self
     c.in_ok-add_syn_expr.ensures.modified c.in_ok-add_syn_expr-2.ensures.modified e.adds e.kept e.carries
+
+pub returns-clause-more : goal.returns-clause-more
+returns-clause-more g c s known = c.explain_quietly.ensures.more s (c.add_syn_expr-2.ensures.more s (c.add_syn_expr.ensures.more s known))

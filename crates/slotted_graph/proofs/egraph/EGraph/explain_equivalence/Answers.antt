@@ -21,12 +21,6 @@ returns-then-modifies-clause-kept g c = is-modified g.N.Analysis.modifies (sym c
 pub returns-clause-kept : goal.returns-clause-kept
 returns-clause-kept g c = unmodified g.N.Analysis.modifies (sym c.modifies.ensures ∙ c.if-modifies.false) _ c.explain_quietly.ensures.kept
 
-pub returns-then-modifies-clause-more : goal.returns-then-modifies-clause-more
-returns-then-modifies-clause-more g c = is-modified g.N.Analysis.modifies (sym c.modifies.ensures ∙ c.if-modifies.true) _
-
-pub returns-clause-more : goal.returns-clause-more
-returns-clause-more g c = unmodified g.N.Analysis.modifies (sym c.modifies.ensures ∙ c.if-modifies.false) _ c.explain_quietly.ensures.more
-
 pub returns-then-modifies-clause-takes : goal.returns-then-modifies-clause-takes
 returns-then-modifies-clause-takes g c = is-modified g.N.Analysis.modifies (sym c.modifies.ensures ∙ c.if-modifies.true) _
 
