@@ -22,6 +22,7 @@ mod own_conditions;
 mod own_graphs;
 mod own_methods;
 mod own_rules;
+mod printing;
 mod rebuilds;
 mod refusing;
 mod reports;

@@ -13,8 +13,10 @@
 //! - `resting N M R TERM: L => R` applies a rule N times. The rule rests for R turns once it has found more than M
 //!   matches. Each time, the line tells whether the graph changed, and whether the rule rests. Then comes the number of
 //!   e-nodes.
+//! - `report T N C REASON` and `rule NAME: L => R` are printed.
 
 use crate::counts::write_counts;
+use crate::printing::write_printed;
 use crate::reports::write_reports;
 use slotted_slots::Error;
 use std::alloc::Global;
@@ -25,6 +27,7 @@ fn write_answer(alloc: Global, line: &str, text: &mut String) -> Result<(), Erro
     let (word, words) = line.split_once(' ').unwrap_or((line, ""));
     match word {
         "counted" | "resting" => write_counts(alloc, word, words, text),
+        "report" | "rule" => write_printed(alloc, word, words, text),
         _ => write_reports(alloc, word, words, text),
     }
 }
