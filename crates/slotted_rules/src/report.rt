@@ -63,6 +63,9 @@ impl<T: fmt::Display> fmt::Display for Report<T> {
         let nodes = self.egraph_nodes;
         let classes = self.egraph_classes;
         let reason = &self.stop_reason;
-        write!(f, "{turns} turns, {nodes} e-nodes, {classes} classes: {reason}")
+        write!(
+            f,
+            "{turns} turns, {nodes} e-nodes, {classes} classes: {reason}"
+        )
     }
 }
