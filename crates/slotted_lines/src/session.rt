@@ -30,9 +30,12 @@ impl<L: Language> Session<L> {
         })
     }
 
-    // Drops the session. A function that lets one go by itself drops it on each of its ways out.
-    pub(crate) fn close(self) {
-        let _ = self.graph.into_table();
+    /// Returns the table of slots of the session's graph, and drops the session. A function that lets one go by itself
+    /// drops it on each of its ways out, and takes longer to prove.
+    pub fn into_table(self) -> SlotTable
+        ensures { result ≡ self.graph.table }
+    {
+        self.graph.into_table()
     }
 
     /// Returns whether the rules can be handed to runs over the graph. Takes no memory.

@@ -30,7 +30,7 @@ pub fn answer_session<L: Printable, R: BufRead, W: Write>(
     match Session::<L>::new(alloc) {
         Ok(mut session) => {
             let outcome = answer_each(alloc, &mut session, input, output);
-            session.close();
+            let _ = session.into_table();
             outcome
         }
         Err(_) => Err(io::Error::from(ErrorKind::OutOfMemory)),

@@ -124,6 +124,13 @@ impl<L: Language> Workspace<L> {
         &self.graph
     }
 
+    /// Returns the table of slots of the graph, and drops the workspace.
+    pub fn into_table(self) -> SlotTable
+        ensures { result ≡ self.graph.table }
+    {
+        self.graph.into_table()
+    }
+
     /// Returns the term that a handle stands for.
     pub fn term_of(&self, handle: Handle) -> Result<&RecExpr<L>, WorkspaceError>
         ensures ok { IfOk result (λ t. term_at self.now handle ≡ Some t.now) }
