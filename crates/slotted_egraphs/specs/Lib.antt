@@ -3,7 +3,7 @@
 --     ids and classes: Applied, Classes, Growth, Ids     the graph: Graph, ValidIds, LookUp, Adding, AddingTerms, Reports, Affected, Image, Nodes, Checks,
 --     Leaves, Causes, Syn, FiledNodes, Measure     extraction: Costs, Laws, Terms, LeastTerms, Chosen
 --     analyses: Meaning, Edits, Part, Analysed, Asked, Edited, Rounds, Writing     patterns: Known, PatternCode, Variables, Values     rules: Extension, Matching, Methods, Uniting, Rewriting, Written, Applying, EqualInstances,
---     Counting, RuleOrigins     runs: Seen, Turning, Runs, Eqsat, Counted, RunOrigins
+--     Counting, RuleOrigins, Unless     runs: Seen, Turning, Runs, Eqsat, Counted, RunOrigins
 pub use Rattle.slotted_theory.specs.Term
 pub use Rattle.slotted_theory.specs.Nameless
 pub use Rattle.slotted_theory.specs.Derives
@@ -73,6 +73,7 @@ pub use Rattle.slotted_rules.specs.Applying
 pub use Rattle.slotted_rules.specs.EqualInstances
 pub use Rattle.slotted_rules.specs.Counting
 pub use Rattle.slotted_rules.specs.RuleOrigins
+pub use Rattle.slotted_rules.specs.Unless
 -- of runs
 pub use Rattle.slotted_rules.specs.Seen
 pub use Rattle.slotted_rules.specs.Turning
