@@ -29,3 +29,4 @@ pub mod Chosen
 pub mod BelowNext
 pub mod KeysByShapes
 pub mod NodeSizes
+pub mod Unbound

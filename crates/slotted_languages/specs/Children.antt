@@ -23,6 +23,9 @@ all_children f = first_children f (length (children f.tree))
 abbrev pub IsBinder : Form → ℕ → Type 0
 IsBinder f j = IsSome (scope_end_of (scopes f.tree) j)
 
+abbrev pub HasNoBinder : Form → Type 0
+HasNoBinder f = (j : ℕ) → j < length f.names → ¬ IsBinder f j
+
 -- some binder has the name
 pub record IsBound (f : Form) (x : ℕ) : Type 0 where
   pub place : ℕ

@@ -1,5 +1,5 @@
 -- Numbering the places of a node from the left, with the binders that were passed.
-use Rattle.std.specs.Prelude.{◌≡◌, ℕ, ◌+◌, List, [], ◌∷◌, ◌++◌, Option, Some, None, cond, ◌&&◌, nat_eq, nat_lt, drop, slice_index}
+use Rattle.std.specs.Prelude.{◌≡◌, ℕ, ◌+◌, List, [], ◌∷◌, ◌++◌, Option, Some, None, cond, ◌&&◌, IsTrue, nat_eq, nat_lt, drop, slice_index}
 use Rattle.slotted_slots.specs.Table.{numeric_slot}
 use Rattle.slotted_slots.specs.Maps.{value_of}
 use Rattle.slotted_languages.specs.declared.shape.Binder.{Binder}
@@ -16,9 +16,9 @@ pub record Walk : Type 0 where
 abbrev pub walk_of : Numbering → Walk
 walk_of n = record { next = n.next; binders = n.binders.items; free = n.free }
 
--- the two maps say the same, and all numbers are below the next one
+-- if names stand by name too, the two maps say the same; all numbers are below the next one
 pub record IsNumbering (n : Numbering) : Type 0 where
-  pub same : (x : ℕ) → value_of n.numbers x ≡ number_of n.free x
+  pub same : IsTrue n.wide → (x : ℕ) → value_of n.numbers x ≡ number_of n.free x
   pub below : IsBelow (numeric_slot n.next) n.free
 
 abbrev pub numbers : Walk → Numbers

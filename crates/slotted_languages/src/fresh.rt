@@ -107,7 +107,11 @@ pub(crate) fn fill_names<L: Language>(
 }
 
 // Returns the node with the values of a map in place of its keys.
-fn replace_names<L: Language>(node: &L, alloc: Global, names: &SlotMap) -> Result<L, Error>
+pub(crate) fn replace_names<L: Language>(
+    node: &L,
+    alloc: Global,
+    names: &SlotMap,
+) -> Result<L, Error>
     requires small { IsSmall (L.form node.now) }
     ensures ok { IfOk result (λ r. L.form r ≡ with_replaced names.now (L.form node.now)) }
     ensures err { IfErr result IsOutOfMemory }

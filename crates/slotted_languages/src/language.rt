@@ -15,9 +15,9 @@ ghost use Rattle.slotted_languages.specs.NodeTerm.{nameless_node, free_names_of}
 ghost use Rattle.slotted_languages.specs.Occurrences.{public_names, private_names};
 ghost use Rattle.slotted_languages.specs.Shape.{shape, firsts};
 
-use crate::fresh::{fill_names, names_outside, names_within, refresh_names};
-use crate::places::{all_names, check_count, hidden_names, name_set, seen_names};
-use crate::renaming::{add_names, rename};
+use crate::fresh::{fill_names, names_outside, names_within, refresh_names, replace_names};
+use crate::places::{all_names, binds_nothing, check_count, hidden_names, name_set, seen_names};
+use crate::renaming::{refresh_binders, rename_apart};
 use crate::shape::{PLACES, number_places};
 use slotted_nodes::LanguageChildren;
 use slotted_slots::{AppliedId, Error, Id, Slot, SlotMap, SlotTable, SmallHashSet};
@@ -122,10 +122,11 @@ pub trait Language: LanguageChildren + Ord {
         ensures more { KnowsMore table.old table.new }
         ensures kept { table.new.names ≡ table.old.names }
     {
-        let (numbered, free) = self.weak_shape(alloc)?;
-        let names = free.compose_partial(alloc, m)?;
-        let avoid = names.values(alloc)?;
-        rename(self, numbered, alloc, &names, &avoid, table)
+        if binds_nothing(self) {
+            let renamed = replace_names(self, alloc, m)?;
+            return Ok(renamed);
+        }
+        rename_apart(self, alloc, m, table)
     }
 
     /// Returns this node with its free slots renamed by `m`, as `apply_slotmap` does. `m` must have each of them as a
@@ -225,10 +226,11 @@ pub trait Language: LanguageChildren + Ord {
         ensures more { KnowsMore table.old table.new }
         ensures kept { table.new.names ≡ table.old.names }
     {
-        let (numbered, free) = self.weak_shape(alloc)?;
-        let mut avoid = free.values(alloc)?;
-        add_names(self, &mut avoid)?;
-        rename(self, numbered, alloc, &free, &avoid, table)
+        if binds_nothing(self) {
+            let same = self.copy(alloc)?;
+            return Ok(same);
+        }
+        refresh_binders(self, alloc, table)
     }
 
     /// Returns this node with one fresh slot in place of each slot of the set, whether that is free or bound.

@@ -1,8 +1,9 @@
 //! The names at the places of a node, from the left.
-ghost use Rattle.std.specs.Prelude.{◌≡◌, ◌↔◌, ℕ, IfOk, IfErr, IsErrOf, IsOkUnless};
+ghost use Rattle.std.specs.Prelude.{◌≡◌, ◌↔◌, ℕ, IfOk, IfErr, IsErrOf, IsOkUnless, IsTrue};
 ghost use Rattle.slotted_slots.specs.Error.{IsOutOfMemory};
 ghost use Rattle.slotted_slots.specs.Maps.{is_among};
 ghost use Rattle.slotted_nodes.specs.Form.{IsSmall};
+ghost use Rattle.slotted_languages.specs.Children.{HasNoBinder};
 ghost use Rattle.slotted_languages.specs.NewNames.{IsTooLarge};
 ghost use Rattle.slotted_languages.specs.NodeTerm.{free_names_of};
 ghost use Rattle.slotted_languages.specs.Occurrences.{public_names, private_names};
@@ -21,6 +22,22 @@ pub(crate) fn check_count<L: Language>(node: &L) -> Result<(), Error>
         return Err(Error::OutOfSlots);
     }
     Ok(())
+}
+
+// Returns whether the node has a shape and binds nothing.
+pub(crate) fn binds_nothing<L: Language>(node: &L) -> bool
+    ensures small { IsTrue result → IsSmall (L.form node.now) }
+    ensures none { IsTrue result → HasNoBinder (L.form node.now) }
+{
+    if node.slot_count() >= PLACES {
+        return false;
+    }
+    for i in 0..node.slot_count() {
+        if node.scope_end(i).is_some() {
+            return false;
+        }
+    }
+    true
 }
 
 // Returns the names at all places.

@@ -1,10 +1,15 @@
 //! Renaming of nodes without capture: a bound slot is refreshed if a new free name would meet it.
-ghost use Rattle.std.specs.Prelude.{◌≡◌, ℕ, true, false, Some, None, IsSome, IfOk, IfErr, OnOk, IsErrOf, IsOkUnless};
+ghost use Rattle.std.specs.Prelude.{◌≡◌, ℕ, [], true, false, Some, None, IsSome, IfOk, IfErr, OnOk, IsErrOf, IsOkUnless};
 ghost use Rattle.slotted_slots.specs.Error.{IsOutOfMemory, IsShortage};
-ghost use Rattle.slotted_slots.specs.Maps.{IsInEither, is_among, keys, value_of, values};
+ghost use Rattle.slotted_slots.specs.Maps.{IsInEither, KnowsAll, is_among, keys, value_of, values};
 ghost use Rattle.slotted_slots.specs.Table.{KnowsMore, Takes, is_known};
 ghost use Rattle.slotted_nodes.specs.Form.{IsSmall};
+ghost use Rattle.slotted_languages.specs.Children.{NoneFreeAndBound};
 ghost use Rattle.slotted_languages.specs.Fresh.{IsAtHand, IsOrAtHand, KeepsAll, LacksOne, TakesOne};
+ghost use Rattle.slotted_languages.specs.NewNames.{BindersAreNew, BindersAreUnknown, BindersDiffer, BindersMeetAsBefore};
+ghost use Rattle.slotted_languages.specs.NewNames.{BindersStay, IsRenamedBy, IsTooLarge, LacksPerBinder, PutsIn, StandsIn};
+ghost use Rattle.slotted_languages.specs.NewNames.{TakesPerBinder};
+ghost use Rattle.slotted_languages.specs.NodeTerm.{nameless_node, free_names_of};
 ghost use Rattle.slotted_languages.specs.Shape.{shape};
 ghost use Rattle.slotted_languages.specs.Renaming.{HasName, IsAvoidedOr, IsChoice, IsEntered, LacksForBinders, RenamesAs, TakesForBinders};
 
@@ -162,4 +167,57 @@ pub(crate) fn add_names<L: Language>(node: &L, set: &mut SmallHashSet<Slot>) -> 
         set.insert(node.slot(i))?;
     }
     Ok(())
+}
+
+/// Returns the node with its free slots renamed by `m`, as `Language::apply_slotmap` does.
+pub(crate) fn rename_apart<L: Language>(
+    node: &L,
+    alloc: Global,
+    m: &SlotMap,
+    table: &mut SlotTable,
+) -> Result<L, Error>
+    requires { KnowsAll m.now (free_names_of (L.form node.now)) }
+    ensures renamed { IfOk result (λ r. IsRenamedBy m.now (L.form node.now) (L.form r)) }
+    ensures stays { IfOk result (λ r. BindersStay (L.form node.now) (L.form r)) }
+    ensures checked { IfOk result (λ r. NoneFreeAndBound (L.form r)) }
+    ensures known { IfOk result (λ r. PutsIn table.new (values m.now) (L.form node.now) (L.form r)) }
+    ensures taken { IfOk result (λ r. Takes table.old table.new (StandsIn (L.form node.now) (L.form r))) }
+    ensures large { IsTooLarge (L.form node.now) → IsErrOf result Error.OutOfSlots }
+    ensures count { TakesPerBinder m.now (L.form node.now) table.old table.new }
+    ensures full { IsErrOf result Error.OutOfSlots → LacksPerBinder m.now (L.form node.now) table.old table.new }
+    ensures only { IfErr result IsShortage }
+    ensures more { KnowsMore table.old table.new }
+    ensures kept { table.new.names ≡ table.old.names }
+{
+    let (numbered, free) = node.weak_shape(alloc)?;
+    let names = free.compose_partial(alloc, m)?;
+    let avoid = names.values(alloc)?;
+    rename(node, numbered, alloc, &names, &avoid, table)
+}
+
+/// Returns the node with a fresh slot for each binder, as `Language::refresh_private` does.
+pub(crate) fn refresh_binders<L: Language>(
+    node: &L,
+    alloc: Global,
+    table: &mut SlotTable,
+) -> Result<L, Error>
+    ensures same { IfOk result (λ r. nameless_node (L.form r) ≡ nameless_node (L.form node.now)) }
+    ensures fresh { IfOk result (λ r. BindersAreNew (L.form node.now) (L.form r)) }
+    ensures unused { IfOk result (λ r. BindersAreUnknown table.old (L.form node.now) (L.form r)) }
+    ensures apart { IfOk result (λ r. BindersDiffer (L.form node.now) (L.form r)) }
+    ensures differ { IfOk result (λ r. BindersMeetAsBefore (L.form node.now) (L.form r)) }
+    ensures checked { IfOk result (λ r. NoneFreeAndBound (L.form r)) }
+    ensures known { IfOk result (λ r. PutsIn table.new [] (L.form node.now) (L.form r)) }
+    ensures taken { IfOk result (λ r. Takes table.old table.new (StandsIn (L.form node.now) (L.form r))) }
+    ensures large { IsTooLarge (L.form node.now) → IsErrOf result Error.OutOfSlots }
+    ensures count { TakesPerBinder [] (L.form node.now) table.old table.new }
+    ensures full { IsErrOf result Error.OutOfSlots → LacksPerBinder [] (L.form node.now) table.old table.new }
+    ensures only { IfErr result IsShortage }
+    ensures more { KnowsMore table.old table.new }
+    ensures kept { table.new.names ≡ table.old.names }
+{
+    let (numbered, free) = node.weak_shape(alloc)?;
+    let mut avoid = free.values(alloc)?;
+    add_names(node, &mut avoid)?;
+    rename(node, numbered, alloc, &free, &avoid, table)
 }

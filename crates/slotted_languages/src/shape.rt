@@ -1,9 +1,10 @@
 //! Shapes of nodes: names become numbers in the order in which they first stand.
-ghost use Rattle.std.specs.Prelude.{◌≡◌, ◌<◌, None, IfOk, IfErr};
+ghost use Rattle.std.specs.Prelude.{◌≡◌, ◌<◌, None, IfOk, IfErr, IsTrue, OnOk};
 ghost use Rattle.slotted_slots.specs.Error.{IsOutOfMemory};
+ghost use Rattle.slotted_slots.specs.Maps.{with_pair};
 ghost use Rattle.slotted_slots.specs.Table.{slot_limit};
 ghost use Rattle.slotted_nodes.specs.Form.{IsSmall};
-ghost use Rattle.slotted_languages.specs.Shape.{shape, ShapeLaws};
+ghost use Rattle.slotted_languages.specs.Shape.{shape, ShapeLaws, number_of};
 ghost use Rattle.slotted_languages.specs.Walk.{IsNumbering, bound_number, start, walk_at, walk_binder, walk_free, walk_of};
 
 use crate::language::Language;
@@ -19,9 +20,11 @@ struct Binder {
     number: Slot,
 }
 
-// The state of the numbering up to a place: the binders so far, and the free names by name and by number.
+// The state of the numbering up to a place: the binders so far, and the free names by number. A wide node's free names
+// stand by name too; those of others are gone through.
 #[derive(Drop)]
 struct Numbering {
+    wide: bool,
     next: u32,
     binders: SmallVec<Binder, 4>,
     numbers: SlotMap,
@@ -29,11 +32,12 @@ struct Numbering {
 }
 
 impl Numbering {
-    fn new(alloc: Global) -> Numbering
+    fn new(alloc: Global, wide: bool) -> Numbering
         ensures start { walk_of result ≡ start }
         ensures good { IsNumbering result }
     {
         Numbering {
+            wide,
             next: 0,
             binders: SmallVec::new(alloc),
             numbers: SlotMap::new(alloc),
@@ -72,6 +76,35 @@ impl Numbering {
         Ok(number)
     }
 
+    // Returns the number of a free name, if it has one.
+    fn free_number(&self, name: Slot) -> Option<Slot>
+        requires good { IsNumbering self.now }
+        ensures { result ≡ number_of self.now.free name }
+    {
+        if self.wide {
+            return self.numbers.get(name);
+        }
+        for (number, own) in self.free.iter() {
+            if own == name {
+                return Some(number);
+            }
+        }
+        None
+    }
+
+    // Notes the number of a free name by that name, if the node is wide.
+    fn note(&mut self, name: Slot, number: Slot) -> Result<(), Error>
+        ensures walk { walk_of self.new ≡ walk_of self.old }
+        ensures wide { self.new.wide ≡ self.old.wide }
+        ensures noted { OnOk result (IsTrue self.old.wide → self.new.numbers ≡ with_pair self.old.numbers name number) }
+        ensures err { IfErr result IsOutOfMemory }
+    {
+        if self.wide {
+            self.numbers.insert(name, number)?;
+        }
+        Ok(())
+    }
+
     // Returns the number of a free name, which gets the next one if it stands for the first time.
     fn number_free(&mut self, name: Slot) -> Result<Slot, Error>
         requires few { self.old.next < slot_limit }
@@ -80,11 +113,11 @@ impl Numbering {
         ensures good { IfOk result (λ _. IsNumbering self.new) }
         ensures err { IfErr result IsOutOfMemory }
     {
-        if let Some(number) = self.numbers.get(name) {
+        if let Some(number) = self.free_number(name) {
             return Ok(number);
         }
         let number = Slot::numeric_at(self.next);
-        self.numbers.insert(name, number)?;
+        self.note(name, number)?;
         self.free.insert(number, name)?;
         self.next += 1;
         Ok(number)
@@ -119,13 +152,16 @@ pub fn shapes_decide()
 /// The number of places from which on a node has no shape.
 pub const PLACES: usize = 1 << 30;
 
+// The number of places up to which a node's free names are gone through one by one.
+const FEW: usize = 16;
+
 // Puts its number at each place, and returns the names of the numbers that stand for free names.
 pub(crate) fn number_places<L: Language>(node: &mut L, alloc: Global) -> Result<SlotMap, Error>
     requires small { IsSmall (L.form node.old) }
     ensures ok { IfOk result (λ m. (L.form node.new, m) ≡ shape (L.form node.old)) }
     ensures err { IfErr result IsOutOfMemory }
 {
-    let mut numbering = Numbering::new(alloc);
+    let mut numbering = Numbering::new(alloc, node.slot_count() > FEW);
     for i in 0..node.slot_count() {
         let name = node.slot(i);
         let scope_end = node.scope_end(i);

@@ -1,10 +1,11 @@
 -- What a search finds among pairs in key order, and what an edit at that place does.
-use Rattle.std.proofs.Common.{◌≡◌, ℕ, zero, suc, ◌<◌, ◌≤◌, ◌-◌, eqb, true, false, List, [], ◌∷◌, length, get_or, Some, None, Result, Ok, Err, IfOk, IfErr, refl, sym, ap, subst, inl, inr, arith, if◌then◌else◌}
+use Rattle.std.proofs.Common.{◌≡◌, ◌∙◌, ◌++◌, ℕ, zero, suc, ◌<◌, ◌≤◌, ◌-◌, eqb, true, false, List, [], ◌∷◌, length, get_or, Some, None, Result, Ok, Err, IfOk, IfErr, refl, sym, ap, subst, inl, inr, arith, if◌then◌else◌}
 use Rattle.std.specs.Prelude.{slice_get}
 use Rattle.std.specs.List.{insert, remove}
 use Rattle.std.specs.List.Sorted.{IsSearchInRange, IsBinarySearchResult, IsNonDecreasingBy}
 use Rattle.std.specs.Ordering.{nat_cmp, ordering_index}
 use Rattle.std.proofs.lemmas.Cmp.{ranked}
+use Rattle.std.proofs.lemmas.List.Edits.{insert_end}
 use Rattle.std.proofs.lemmas.List.Sorted.{IsNonDecreasingBy-from_default}
 use Rattle.std.proofs.lemmas.Bool.{cases_eq, cases_order, lt-ltb, le-ltb, eq-eqb, ne_eqb}
 use Rattle.std.proofs.lemmas.Bool.Decides.{nat_tests}
@@ -99,6 +100,10 @@ with_pair-gap (p ∷ m) l r zero gap =
 with_pair-gap (p ∷ m) l r (suc i) gap =
     let first : p.0 < l = gap.smaller_before 0 (omega arith) in
     grind (arith, nat_tests, first, with_pair-gap m l r i (IsGapFor-tail p m l i gap))
+
+-- and at the end
+pub with_pair-end : (m : List (ℕ × ℕ)) (l r : ℕ) → IsGapFor m l (length m) → with_pair m l r ≡ m ++ (l, r) ∷ []
+with_pair-end m l r gap = with_pair-gap m l r (length m) gap ∙ insert_end m (l, r)
 
 -- the keys stay above what they were above, if the new one is
 pub AllAbove-with_pair : (k : ℕ) (m : List (ℕ × ℕ)) (l r : ℕ) → k < l → AllAbove k (keys m) → AllAbove k (keys (with_pair m l r))

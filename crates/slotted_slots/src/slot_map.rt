@@ -1,5 +1,5 @@
 //! Finite maps from slots to slots, in the order of their keys.
-ghost use Rattle.std.specs.Prelude.{◌≡◌, ℕ, List, [], ◌<◌, length, Some, OnOk, OnErr, IfOk, IfErr, slice_get, MatchResult, IsSome, IsOk, IsTrue, ◌↔◌, Contains, flat_map, is_some};
+ghost use Rattle.std.specs.Prelude.{◌≡◌, ℕ, List, [], ◌<◌, length, Some, OnOk, OnErr, IfOk, IfErr, slice_get, MatchResult, IsSome, IsOk, IsTrue, ◌↔◌, Contains, flat_map, fold, is_some};
 ghost use Rattle.std.specs.Iterator.{YieldsFirst, item_count};
 ghost use Rattle.std.specs.Ordering.{nat_cmp};
 ghost use Rattle.std.specs.Cmp.Lexicographic.{pointwise, slice_cmp, slice_partial_cmp, lists_per, lists_equiv, lists_po, lists_total, lists_agrees, lists_ties};
@@ -7,7 +7,7 @@ ghost use Rattle.std.proofs.Common.{rules};
 ghost use Rattle.std.specs.Cmp.Rules.{comparing};
 ghost use Rattle.slotted_slots.specs.Ascending.{IsAscending};
 ghost use Rattle.slotted_slots.specs.Error.{IsOutOfMemory};
-ghost use Rattle.slotted_slots.specs.Hashing.{elements_alike};
+ghost use Rattle.slotted_slots.specs.Hashing.{elements_alike, pair_input};
 ghost use Rattle.slotted_slots.specs.Maps.{IsAt, IsGapFor, value_of, with_value_at, with_pair, without_key, map_of, turned, doubled, composed, is_among, all_differ, values, keys, IsInverse};
 ghost use Rattle.slotted_slots.specs.Sets.{set_of};
 
@@ -96,6 +96,20 @@ impl SlotMap {
 
     /// Puts the value `r` at the key `l`, in place of a value that the key had. Takes memory only if the key is new.
     pub fn insert(&mut self, l: Slot, r: Slot) -> Result<(), Error>
+        ensures ok { OnOk result (self.new ≡ with_pair self.old l r) }
+        ensures err { OnErr result (self.new ≡ self.old) }
+        ensures memory { IfErr result IsOutOfMemory }
+        ensures overwrites { IsSome (value_of self.old l) → IsOk result }
+    {
+        if self.ends_before(l) {
+            self.pairs.push((l, r))?;
+            return Ok(());
+        }
+        self.put(l, r)
+    }
+
+    // Puts the value at the key, wherever it stands.
+    fn put(&mut self, l: Slot, r: Slot) -> Result<(), Error>
         ensures ok { OnOk result (self.new ≡ with_pair self.old l r) }
         ensures err { OnErr result (self.new ≡ self.old) }
         ensures memory { IfErr result IsOutOfMemory }
@@ -368,13 +382,22 @@ impl Ord for SlotMap {
     }
 }
 
+// Feeds pairs to a hasher, each as one number.
+fn hash_pairs<H: Hasher>(pairs: &[(Slot, Slot)], state: &mut H)
+    ensures { state.new ≡ fold H.write state.old (flat_map pair_input pairs.now) }
+{
+    for pair in pairs {
+        state.write_u64(pair.0.raw() as u64 * (1 << 32) + pair.1.raw() as u64);
+    }
+}
+
 impl Hash for SlotMap {
     // The pairs, and not how many there are: most maps have none or one.
-    ghost hash_input = { flat_map ⟦<(Slot, Slot) as Hash>⟧.hash_input };
+    ghost hash_input = { flat_map pair_input };
 
-    ghost respects_eq = { elements_alike ⟦<(Slot, Slot) as Hash>⟧.hash_input (Prim.search rules) };
+    ghost respects_eq = { elements_alike pair_input (Prim.search rules) };
 
     fn hash<H: Hasher>(&self, state: &mut H) {
-        Hash::hash_slice(self.pairs.as_slice(), state);
+        hash_pairs(self.pairs.as_slice(), state);
     }
 }

@@ -1,22 +1,16 @@
--- The pair is put in where the search found its key, or the gap for it.
-use Rattle.std.proofs.Common.{sym, arith, ◌∙◌}
-use Rattle.slotted_slots.proofs.MapLemmas.{value_of-gap, with_pair-at, with_pair-gap, IsAscending-with_pair, IsAscending-with_value_at}
+-- A key past all others goes to the end.
+use Rattle.std.proofs.Common.{sym, arith}
+use Rattle.slotted_slots.proofs.MapLemmas.{value_of-gap, with_pair-end, IsAscending-with_pair}
 use Rattle.slotted_slots.proofs.slot_map.SlotMap.insert.Goals as goal
-use Rattle.slotted_slots.proofs.slot_map.SlotMap.insert.Goals.{in-Ok, in-Err+in_ok-insert-in-Err}
 
-pub invariant_of-self : goal.invariant_of-self
-invariant_of-self c = rw c.write_value.ensures (IsAscending-with_value_at _ _ _ c.self.invariant)
+pub returns-in_err-push-clause-overwrites : goal.returns-in_err-push-clause-overwrites
+returns-in_err-push-clause-overwrites c found = grind (arith, value_of-gap _ _ _ (c.ends_before.ensures c.if-ends_before.true))
 
-pub invariant_of-self-in-Continue-1 : goal.invariant_of-self-in-Continue-1
-invariant_of-self-in-Continue-1 c =
-    let put = with_pair-gap _ _ c.args.r _ c.in-Err.ensures.absent in
-    rw (c.in_ok-insert-in-Err.ensures.items, c.self.view_is, ← put) (IsAscending-with_pair _ _ _ c.in-Err.ensures.ascending)
+pub invariant_of-self-then-ends_before : goal.invariant_of-self-then-ends_before
+invariant_of-self-then-ends_before c =
+    let put = with_pair-end c.args.self.now c.args.l c.args.r (c.ends_before.ensures c.if-ends_before.true) in
+    rw (c.in_ok-push.ensures.items, c.self.view_is, ← put) (IsAscending-with_pair c.args.self.now c.args.l c.args.r (rw (← c.self.view_is) c.self.invariant))
 
-pub returns-in_err-insert-in-Err-clause-overwrites : goal.returns-in_err-insert-in-Err-clause-overwrites
-returns-in_err-insert-in-Err-clause-overwrites c found = grind (arith, value_of-gap _ _ _ c.in-Err.ensures.absent)
-
-pub returns-clause-ok : goal.returns-clause-ok
-returns-clause-ok c = elim c.match-search.branch [
-  | in-Ok w ↦ w.self-is ∙ rw (w.write_value.ensures, c.self.view_is) (sym (with_pair-at _ w.in-Ok.ensures.ascending _ c.args.r _ w.in-Ok.ensures.found))
-  | in-Err+in_ok-insert-in-Err w ↦ w.self-is ∙ rw (w.in_ok-insert-in-Err.ensures.items, c.self.view_is) (sym (with_pair-gap _ _ c.args.r _ w.in-Err.ensures.absent))
-]
+pub returns-then-ends_before-clause-ok : goal.returns-then-ends_before-clause-ok
+returns-then-ends_before-clause-ok c =
+    rw (c.in_ok-push.ensures.items, c.self.view_is) (sym (with_pair-end c.args.self.now c.args.l c.args.r (c.ends_before.ensures c.if-ends_before.true)))
