@@ -103,6 +103,19 @@ pub fn is_valid_node<L: Language>(store: &Store<L>, table: &SlotTable, node: &L)
         && children_can_be_found(store, node)
 }
 
+/// Returns whether each child of the e-node is full.
+pub fn has_full_children<L: Language>(store: &Store<L>, node: &L) -> bool
+    requires { Good store.now }
+    ensures { IsTrue result ↔ All (IsFull (nodes_of store.now)) (child_ids (L.form node.now)) }
+{
+    for k in 0..node.applied_id_count() {
+        if !is_full(store, node.applied_id(k)) {
+            return false;
+        }
+    }
+    true
+}
+
 // Adding.
 
 // Returns the class that was made with an e-node of this shape, with the e-node's names put in. If there is none,

@@ -12,7 +12,7 @@ ghost use Rattle.slotted_operations.specs.Good.{AddsFilled, AddsFound, AddsFound
 ghost use Rattle.slotted_operations.specs.Good.{LacksForTermIn, RunsOutForUnknownIn, TakesForTermIn};
 ghost use Rattle.slotted_operations.specs.Graph.{MakesAtMost};
 
-use crate::adding::add_syn;
+use crate::adding::{add_syn, has_full_children};
 use crate::stacks::over_last;
 use slotted_classes::Store;
 use slotted_hashcons::Hashcons;
@@ -24,9 +24,8 @@ use slotted_terms::expr::RecExpr;
 use slotted_terms::flat::flatten;
 use std::alloc::Global;
 
-/// Returns the class that was made with the e-node, whose children are filled first, with the e-node's names put in.
-/// If there is none, adds a class.
-pub fn add_filled<L: Language>(
+// Fills the children of the e-node, and returns the class that was made with it, as `add_filled` does.
+fn fill_and_add<L: Language>(
     store: &mut Store<L>,
     nodes: &mut Hashcons<L>,
     alloc: Global,
@@ -50,6 +49,35 @@ pub fn add_filled<L: Language>(
     let filled = fill_node(store, alloc, table, node)?;
     let answer = add_syn(store, nodes, alloc, table, &filled)?;
     Ok(answer)
+}
+
+/// Returns the class that was made with the e-node, whose children are filled first, with the e-node's names put in.
+/// If there is none, adds a class. An e-node over full ids is not copied.
+pub fn add_filled<L: Language>(
+    store: &mut Store<L>,
+    nodes: &mut Hashcons<L>,
+    alloc: Global,
+    table: &mut SlotTable,
+    node: &L,
+) -> Result<AppliedId, Error>
+    requires good { Good store.old }
+    requires rests { RestsWith store.old nodes.old }
+    requires fresh_slots { HasFreshSlots table.old store.old }
+    requires children { HasFindableChildren store.old (L.form node.now) }
+    requires known { AllKnown table.old (L.form node.now).names }
+    ensures ok { IfOk result
+        (λ a. AddsFilled table.old table.new store.old nodes.old store.new nodes.new (L.form node.now) (to_applied a)) }
+    ensures more { KnowsMore table.old table.new }
+    ensures takes { MakesAtMost (slots_needed (image_of store.old) (L.form node.now)) table.old table.new }
+    ensures full { IsErrOf result Error.OutOfSlots
+        → RunsOutForFilled (image_of store.old) (L.form node.now) table.old table.new }
+    ensures unknown { IsErrOf result Error.OutOfSlots → IsUnknownIfFull (nodes_of store.old) (L.form node.now) }
+    ensures err { IfErr result IsShortage }
+{
+    if has_full_children(store, node) {
+        return add_syn(store, nodes, alloc, table, node);
+    }
+    fill_and_add(store, nodes, alloc, table, node)
 }
 
 /// Returns what the e-node is looked up as. If there is no answer, adds a class of the e-node, whose children are

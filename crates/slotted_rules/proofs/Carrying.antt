@@ -97,6 +97,11 @@ module _ {N D : Type 0} (codes : Coded N × Coded D) (meaning : N → Meaning D)
     carries-on f g h extends first well (inl failed) = absurd (false≢true (sym well ∙ failed))
     carries-on f g h extends first well (inr second) = carries-then f g h extends first second
 
+  -- what a graph that has not failed carries
+  pub carries-now : {P : Type 0} (g h : Graph) → h.failed ≡ false → IsTrue h.failed ⊎ CarriesIf P codes meaning g h → CarriesIf P codes meaning g h
+  carries-now g h well (inl failed) = absurd (false≢true (sym well ∙ failed))
+  carries-now g h well (inr c) = c
+
   -- in the end the graph is left as it is, or fails
   pub left-carries : {P : Type 0} (f g h : Graph) → IsTrue g.failed ⊎ CarriesIf P codes meaning f g → IsTrue h.failed ⊎ (h ≡ g) → IsTrue h.failed ⊎ CarriesIf P codes meaning f h
   left-carries f g h c (inl failed) = inl failed

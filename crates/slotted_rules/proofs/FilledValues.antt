@@ -12,7 +12,7 @@ use Rattle.std.specs.declared.cmp.Ordering.{Ordering}
 use Rattle.std.specs.declared.cmp.Ordering.TheVariants.{Less, Greater}
 use Rattle.std.proofs.lemmas.Cmp.{nat_list_cmp_total}
 use Rattle.std.proofs.lemmas.List.{append_assoc, map-append}
-use Rattle.std.proofs.lemmas.List.Elements.{All-append, All-push}
+use Rattle.std.proofs.lemmas.List.Elements.{All-append, All-head, All-push, All-tail}
 use Rattle.std.proofs.lemmas.Map.Keys.{sorted_head, sorted_tail}
 use Rattle.slotted_slots.specs.Maps.{values}
 use Rattle.slotted_slots.specs.Table.{AllKnown, KnowsMore, Table, is_known}
@@ -23,6 +23,7 @@ use Rattle.slotted_patterns.specs.Tree.{PatternTree}
 use Rattle.slotted_proofs.specs.Equations.{to_applied}
 use Rattle.slotted_model.specs.Applied.{Applied}
 use Rattle.slotted_model.specs.Growth.{Extends}
+use Rattle.slotted_model.proofs.Represented.Fillings.{fills-itself}
 use Rattle.slotted_classes.proofs.ChildIds.{Each-append, Each-from_All}
 use Rattle.slotted_operations.proofs.CallerLemmas.{full-valid, takes_twice}
 use Rattle.slotted_graph.specs.Graph.{Graph, IsFullId, OnlyTakesSlots}
@@ -135,6 +136,28 @@ module _ (g e : Graph) (all left rest made : List (String Global × AppliedId)) 
               (All-push (λ x. IsFullId h x.1) old d (full-values-later e h old (extends-takes e h takes) so_far.full) full);
           takes = takes_twice g e h so_far.takes takes;
         }
+
+-- values that lack no name are filled by themselves
+pub fills-full : (g : Graph) (older : List ℕ) (s : Values) → AreFullValues g s → FillsValues g.table g.image.canonical older s s
+fills-full g older [] full = tt
+fills-full g older (e ∷ s) full = (
+  refl,
+  λ given known. fills-itself g.image.canonical (older ++ given) e.1 (All-head (λ (d : List ℕ × Applied). IsFullId g d.1) e s full).full,
+  fills-full g (values e.1.1 ++ older) s (All-tail (λ (d : List ℕ × Applied). IsFullId g d.1) e s full),
+)
+
+-- one more value that lacks no name
+pub one-full : (g : Graph) (all left rest done : List (String Global × AppliedId)) (key : String Global) (value : AppliedId) → done ++ left ≡ all → AreFullValues g (shown done) → left ≡ (key, value) ∷ rest → IsFullId g (to_applied value) →
+    (now : List (String Global × AppliedId)) × (now ++ rest ≡ all) × AreFullValues g (shown now)
+one-full g all left rest done key value split so_far is full = (
+  done ++ (key, value) ∷ [],
+  append_assoc done ((key, value) ∷ []) rest ∙ (ap (λ l. done ++ l) (sym is) ∙ split),
+  subst (AreFullValues g) (sym (map-append (λ (x : String Global × AppliedId). (string_bytes x.0, to_applied x.1)) done ((key, value) ∷ [])))
+  (All-push (λ (x : List ℕ × Applied). IsFullId g x.1) (shown done) (string_bytes key, to_applied value) so_far full),
+)
+
+pub takes-none : (g : Graph) → OnlyTakesSlots g g
+takes-none g = record { reads = record { image = refl; filed = refl; part = refl; failed = refl; more = λ s k. k }; names = refl }
 
 -- values that are filled are so in a longer stretch
 pub fills-wider : (t u : Table) (nodes newer : List DTerm) → KnowsMore t u → Extends nodes newer → (older : List ℕ) (s f : Values) → FillsValues u nodes older s f → FillsValues t newer older s f

@@ -1,5 +1,5 @@
 //! Substitutions whose values omit no name.
-ghost use Rattle.std.specs.Prelude.{[], IfOk, IfErr};
+ghost use Rattle.std.specs.Prelude.{[], IfOk, IfErr, IsTrue};
 ghost use Rattle.slotted_slots.specs.Error.{IsShortage};
 ghost use Rattle.slotted_graph.specs.Graph.{OnlyTakesSlots};
 ghost use Rattle.slotted_graph.specs.States.{IsGraph};
@@ -35,4 +35,16 @@ pub(crate) fn full_values<L: Language, N: Analysis<L>>(
         full.insert(name, id)?;
     }
     Ok(full)
+}
+
+/// Returns whether no value omits a name.
+pub(crate) fn are_full<L: Language, N: Analysis<L>>(graph: &EGraph<L, N>, subst: &Subst) -> bool
+    ensures { IsTrue result → AreFullValues graph.now (values_of subst.now) }
+{
+    for (_name, id) in subst {
+        if !graph.is_full(id) {
+            return false;
+        }
+    }
+    true
 }

@@ -9,12 +9,13 @@ ghost use Rattle.slotted_graph.specs.States.{IsGraph};
 ghost use Rattle.slotted_rule_patterns.specs.PatternCode.{pattern_in};
 ghost use Rattle.slotted_rule_patterns.specs.Values.{values_of};
 ghost use Rattle.slotted_rules.specs.Carried.{CarriesAlong};
+ghost use Rattle.slotted_rules.specs.Filled.{AreFullValues};
 ghost use Rattle.slotted_rules.specs.Instances.{AreValidValues, HasValues};
 ghost use Rattle.slotted_rules.specs.Refusals.{AreMissing, HavePassed, IsEitherNotWhole, IsFailedOrShort};
 ghost use Rattle.slotted_rules.specs.Refusals.{IsRefusedBefore, RefusesInstances};
 ghost use Rattle.slotted_rules.specs.Uniting.{UnitesInstances};
 
-use crate::filling::full_values;
+use crate::filling::{are_full, full_values};
 use crate::refusals::{check_values, failing};
 use crate::stored::build_stored;
 use slotted_analyses::Analysis;
@@ -42,8 +43,40 @@ fn check_both<L: Language>(
     check_values(alloc, b, subst)
 }
 
+// Unites both instances over values that omit no name.
+fn unite_full<L: Language, N: Analysis<L>>(
+    alloc: Global,
+    graph: &mut EGraph<L, N>,
+    a: &Pattern<L>,
+    b: &Pattern<L>,
+    subst: &Subst,
+    text: Option<String>,
+) -> Result<bool, Error>
+    requires graph { IsGraph graph.old }
+    requires left { HasKnownNames graph.old.table (tree_of L.form a.now) }
+    requires right { HasKnownNames graph.old.table (tree_of L.form b.now) }
+    requires full { AreFullValues graph.old (values_of subst.now) }
+    requires whole_left { IsSome (pattern_in (tree_of L.form a.now)) }
+    requires whole_right { IsSome (pattern_in (tree_of L.form b.now)) }
+    requires given_left { HasValues (values_of subst.now) (tree_of L.form a.now) }
+    requires given_right { HasValues (values_of subst.now) (tree_of L.form b.now) }
+    ensures unites { IfOk result (UnitesInstances graph.old graph.new (values_of subst.now)
+        (tree_of L.form a.now) (tree_of L.form b.now) (text_bytes text)) }
+    ensures well { OnOk result (graph.new.failed ≡ false) }
+    ensures carries { IsTrue graph.new.failed ⊎ CarriesAlong N.codes N.meaning graph.old graph.new }
+    ensures only { IfErr result IsShortage }
+{
+    let method = graph.subst_method();
+    let left = build_stored(alloc, graph, method, a, subst)?;
+    let right = build_stored(alloc, graph, method, b, subst)?;
+    let answer = graph.union_quietly(&left, &right, text);
+    // This call is there for its clauses: what holds of each graph that has not failed.
+    let _ = graph.is_failed();
+    answer
+}
+
 // Unites both instances, which are built over the same filled values.
-fn unite<L: Language, N: Analysis<L>>(
+fn fill_and_unite<L: Language, N: Analysis<L>>(
     alloc: Global,
     graph: &mut EGraph<L, N>,
     a: &Pattern<L>,
@@ -73,6 +106,35 @@ fn unite<L: Language, N: Analysis<L>>(
     // This call is there for its clauses: what holds of each graph that has not failed.
     let _ = graph.is_failed();
     answer
+}
+
+// Unites both instances. Values are copied only if one of them omits a name.
+fn unite<L: Language, N: Analysis<L>>(
+    alloc: Global,
+    graph: &mut EGraph<L, N>,
+    a: &Pattern<L>,
+    b: &Pattern<L>,
+    subst: &Subst,
+    text: Option<String>,
+) -> Result<bool, Error>
+    requires graph { IsGraph graph.old }
+    requires left { HasKnownNames graph.old.table (tree_of L.form a.now) }
+    requires right { HasKnownNames graph.old.table (tree_of L.form b.now) }
+    requires values { AreValidValues graph.old (values_of subst.now) }
+    requires whole_left { IsSome (pattern_in (tree_of L.form a.now)) }
+    requires whole_right { IsSome (pattern_in (tree_of L.form b.now)) }
+    requires given_left { HasValues (values_of subst.now) (tree_of L.form a.now) }
+    requires given_right { HasValues (values_of subst.now) (tree_of L.form b.now) }
+    ensures unites { IfOk result (UnitesInstances graph.old graph.new (values_of subst.now)
+        (tree_of L.form a.now) (tree_of L.form b.now) (text_bytes text)) }
+    ensures well { OnOk result (graph.new.failed ≡ false) }
+    ensures carries { IsTrue graph.new.failed ⊎ CarriesAlong N.codes N.meaning graph.old graph.new }
+    ensures only { IfErr result IsShortage }
+{
+    if are_full(graph, subst) {
+        return unite_full(alloc, graph, a, b, subst, text);
+    }
+    fill_and_unite(alloc, graph, a, b, subst, text)
 }
 
 /// Asserts that instances of both patterns are equal, as `union_instantiations` does, and tests neither pattern.

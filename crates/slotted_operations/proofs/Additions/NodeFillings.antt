@@ -1,5 +1,5 @@
 -- A node that is added with its children filled: what it takes, and what it leaves.
-use Rattle.std.proofs.Common.{◌≡◌, ◌≤◌, ◌+◌, ◌∙◌, List, [], ◌∷◌, length, ap, refl, sym, arith, inl, inr}
+use Rattle.std.proofs.Common.{◌≡◌, ◌≤◌, ◌+◌, ◌∙◌, List, [], ◌∷◌, length, ap, refl, sym, subst, arith, inl, inr}
 use Rattle.std.specs.Prelude.{All}
 use Rattle.slotted_slots.specs.Table.{KnowsMore, Table, AllKnown}
 use Rattle.slotted_slots.proofs.SlotsTaken.{fresh_goes_on}
@@ -11,9 +11,11 @@ use Rattle.slotted_model.specs.Applied.{Applied}
 use Rattle.slotted_model.specs.Classes.{IsFull}
 use Rattle.slotted_classes.specs.Kept.{Kept, nodes_of}
 use Rattle.slotted_hashcons.specs.FiledRows.{Rows}
+use Rattle.slotted_hashcons.specs.NormalNodes.{HasFindableChildren}
 use Rattle.slotted_languages.specs.Sizes.{node_size}
 use Rattle.slotted_lookup.specs.Filling as filling
 use Rattle.slotted_lookup.specs.Filling.{FillsChildren, HasOneNormalForm, MakesFull, filled_node, missing_in, missing_of, with_fresh}
+use Rattle.slotted_lookup.proofs.ChildFillings.{node-fills, node-whole}
 use Rattle.slotted_lookup.proofs.FillingSizes.{filled_node-places, filled_node-size, missing_of-full}
 use Rattle.slotted_operations.specs.Adding.{RunsOutForFilled, HasLargeClassOrFilled, children_lack, lacking_in, slots_needed}
 use Rattle.slotted_operations.specs.Causes.{CanRunOutForNode, HasLargeClassOrNode}
@@ -94,3 +96,20 @@ none-taken k f t = record { names = refl; taken = omega arith }
 -- where the node is too large itself
 pub runs_out-large : (k : Kept) (f : Form) (t new : Table) → IsTooLarge f → RunsOutForFilled (image_of k) f t new
 runs_out-large k f t new large = inr (inl (omega (arith, large)))
+
+-- a node with full children is added as it is
+pub whole-adds : (k : Kept) (f : Form) → Fits f → (t : Table) → HasFindableChildren k f → All (IsFull (nodes_of k)) (child_ids f) → AllKnown t f.names → (new : Table) → AllKnown new f.names →
+    (r : Rows) (l : Kept) (q : Rows) (a : Applied) → Adds t new k r l q f a → AddsFilled t new k r l q f a
+whole-adds k f fits t findable full known =
+    let whole = node-whole k t f fits full in
+    let none : t.fresh ≡ t.fresh + missing_of k f = omega (arith, missing_of-full k f full) in
+    filled-adds k f f fits t t (sym whole) (ap (λ n. let u : Table = record t { fresh = n } in u) none) known fits (subst (FillsChildren k t f) whole (node-fills k t f fits findable)) (λ _. full) refl (λ _. refl)
+
+pub takes-whole : (k : Kept) (f : Form) (t new : Table) → MakesAtMost (length f.names) t new → MakesAtMost (slots_needed (image_of k) f) t new
+takes-whole k f t new m = record { names = m.names; taken = omega (arith, m.taken) }
+
+pub runs_out-whole : (k : Kept) (f : Form) (t new : Table) → CanRunOutForNode (image_of k) f t new → RunsOutForFilled (image_of k) f t new
+runs_out-whole k f t new (inl (inl r)) = inl (record { lacks = omega (arith, r.lacks); used = r.used })
+runs_out-whole k f t new (inl (inr large)) = inr (inl (omega (arith, large)))
+runs_out-whole k f t new (inr (inl c)) = inr (inr (inl c))
+runs_out-whole k f t new (inr (inr wide)) = inr (inr (inr (omega (arith, wide))))

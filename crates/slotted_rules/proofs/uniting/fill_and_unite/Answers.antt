@@ -9,7 +9,7 @@ use Rattle.slotted_rules.proofs.FilledValues.{filled-given, full-values-later, f
 use Rattle.slotted_rules.proofs.Growing.{graph-takes}
 use Rattle.slotted_rules.proofs.Parts.{known-later}
 use Rattle.slotted_rules.proofs.UnitedInstances.{ok-united}
-use Rattle.slotted_rules.proofs.uniting.unite.Goals as goal
+use Rattle.slotted_rules.proofs.uniting.fill_and_unite.Goals as goal
 
 pub build_stored-requires-clause-graph : goal.build_stored-requires-clause-graph
 build_stored-requires-clause-graph g c = graph-takes c.args.graph.now c.full_values.new.graph c.requires.graph c.full_values.ensures.takes
