@@ -20,6 +20,7 @@ pub mod FrameStacks
 pub mod SameIds
 pub mod Answering
 pub mod Putting
+pub mod AskedMethods
 pub mod FilledValues
 pub mod KnownBinders
 pub mod FilledInstances
