@@ -5,6 +5,7 @@ pub mod CountedRules
 pub mod Progress
 pub mod Modified
 pub mod Settling
+pub mod Between
 pub mod LeftGraphs
 pub mod UnitedAnswers
 pub mod EqualInstances

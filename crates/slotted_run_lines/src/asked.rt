@@ -112,11 +112,7 @@ fn own_instance(
 }
 
 // Returns the canonical term of `b[x := t]`, for three terms `B, X, T`.
-fn replaced_text(
-    alloc: Global,
-    graph: &mut EGraph<Small>,
-    texts: &str,
-) -> Result<String, Error> {
+fn replaced_text(alloc: Global, graph: &mut EGraph<Small>, texts: &str) -> Result<String, Error> {
     let (b, texts) = parted(texts, ", ");
     let (x, t) = parted(texts, ", ");
     let b = put(graph, b)?;

@@ -2,9 +2,7 @@
 use crate::asked::parted;
 use crate::doubles::Times;
 use slotted_graph::EGraph;
-use slotted_rules::{
-    Cond, NoHook, Rewrite, Runner, and, are_valid, not, or, rw, slot_free_in,
-};
+use slotted_rules::{Cond, NoHook, Rewrite, Runner, and, are_valid, not, or, rw, slot_free_in};
 use slotted_slots::{AppliedId, Error, Slot, SlotTable};
 use slotted_small::Small;
 use slotted_terms::expr::RecExpr;
@@ -50,11 +48,7 @@ fn are_equal(graph: &EGraph<Small>, left: &AppliedId, right: &AppliedId) -> Resu
 }
 
 // Writes whether the first two roots are equal, and how many roots there are.
-fn write_roots(
-    graph: &EGraph<Small>,
-    roots: &[AppliedId],
-    text: &mut String,
-) -> Result<(), Error> {
+fn write_roots(graph: &EGraph<Small>, roots: &[AppliedId], text: &mut String) -> Result<(), Error> {
     let [left, right] = roots else {
         return Err(Error::Failed);
     };
