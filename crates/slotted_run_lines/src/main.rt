@@ -26,7 +26,6 @@ mod printing;
 mod rebuilds;
 mod refusing;
 mod reports;
-mod rooted;
 mod rules;
 mod runs;
 mod searched;
