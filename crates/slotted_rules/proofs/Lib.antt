@@ -5,6 +5,7 @@ pub mod CountedRules
 pub mod Progress
 pub mod Modified
 pub mod Settling
+pub mod Between
 pub mod LeftGraphs
 pub mod UnitedAnswers
 pub mod EqualInstances
@@ -20,6 +21,7 @@ pub mod FrameStacks
 pub mod SameIds
 pub mod Answering
 pub mod Putting
+pub mod AskedMethods
 pub mod FilledValues
 pub mod KnownBinders
 pub mod FilledInstances

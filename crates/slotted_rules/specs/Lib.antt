@@ -5,6 +5,7 @@ pub mod Reading
 pub mod Applying
 pub mod Rewriting
 pub mod WrittenLaws
+pub mod Between
 pub mod Loops
 pub mod Written
 pub mod Counting

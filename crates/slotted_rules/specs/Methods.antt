@@ -4,6 +4,7 @@
 --     represented m X u r       by the method the term r stands for the term u, where X are the pairs that were extracted
 --     AreRepresentatives g h X  each pair of X is the term of an id and a term of least size that it represents, in a graph between g and h
 --     SubstitutesBy m g h b x t a      from g to h the method answers a for b[x := t]
+--     AsksMethod substitutes k g l h   from g with the method k to h with l the method was asked, so often as may be. What is done between asserts nothing
 use Rattle.std.specs.Prelude.{◌≡◌, Bool, IsTrue, List, Contains}
 use Rattle.std.specs.Ordering.{nat_cmp}
 use Rattle.slotted_theory.specs.Term.{Term}
@@ -16,7 +17,7 @@ use Rattle.slotted_graph.specs.declared.method.SubstMethod.{SubstMethod}
 use Rattle.slotted_graph.specs.declared.method.SubstMethod.TheVariants.{SynExpr, Extraction}
 use Rattle.slotted_graph.specs.Graph.{Graph, IsFullId}
 use Rattle.slotted_graph.specs.LeastTerms.{IsLeastTerm}
-use Rattle.slotted_graph.specs.Extension.{IsBetween}
+use Rattle.slotted_graph.specs.Extension.{ExtendsTo, IsBetween}
 use Rattle.slotted_model_rules.specs.Instances.{is_itself}
 use Rattle.slotted_model_rules.specs.Representing.{is_listed}
 use Rattle.slotted_model_rules.specs.Substitution.{substituted}
@@ -65,3 +66,8 @@ pub record SubstitutesBy (m : Method) (g h : Graph) (b x t a : Applied) : Type 0
   pub body : DTerm
   pub stands : IsTrue (represented m pairs (term_of h.image.canonical b) body)
   pub term : term_of h.image.canonical a ≡ substituted (term_of h.image.canonical x) (term_of h.image.canonical t) body
+
+pub data AsksMethod {M : Type 0} (substitutes : M → Graph → Applied → Applied → Applied → Applied → M → Graph → Type 0) (k : M) (g : Graph) : M → Graph → Type 0 where
+  not_asked : AsksMethod substitutes k g k g
+  then_built : {l : M} {f h : Graph} → AsksMethod substitutes k g l f → ExtendsTo f h → AssertsNothing f h → AsksMethod substitutes k g l h
+  then_asked : {l m : M} {f h : Graph} (b x t a : Applied) → AsksMethod substitutes k g l f → ExtendsTo f h → substitutes l f b x t a m h → AsksMethod substitutes k g m h

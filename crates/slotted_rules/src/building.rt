@@ -1,5 +1,6 @@
 //! Building instances of patterns, from the bottom, e-node by e-node.
 ghost use Rattle.std.specs.Prelude.{◌≡◌, ◌≤◌, ◌⊎◌, All, length, map, IsErrAnd, IsSome, IsTrue, IfOk, IfErr, OnErr};
+ghost use Rattle.std.specs.Prelude.{OnOk};
 ghost use Rattle.slotted_slots.specs.Error.{IsShortage};
 ghost use Rattle.slotted_proofs.specs.Equations.{to_applied};
 ghost use Rattle.slotted_patterns.specs.Known.{HasKnownNames};
@@ -12,7 +13,7 @@ ghost use Rattle.slotted_rule_patterns.specs.Values.{values_of};
 ghost use Rattle.slotted_rules.specs.Building.{Grows};
 ghost use Rattle.slotted_rules.specs.Carried.{CarriesIf};
 ghost use Rattle.slotted_rules.specs.Instances.{AreValidValues, HasValues, Instantiates};
-ghost use Rattle.slotted_rules.specs.Methods.{IsKnownMethod};
+ghost use Rattle.slotted_rules.specs.Methods.{AsksMethod, IsKnownMethod};
 ghost use Rattle.slotted_rules.specs.Putting.{PutsIn};
 ghost use Rattle.slotted_rules.specs.Stacked.{BuildsOver, IsReady, PutsLast};
 
@@ -44,6 +45,7 @@ fn put_in<L: Language, N: Analysis<L>, M: OwnSubst<L, N>>(
     requires value { IsValidId graph.old (to_applied t.now) }
     ensures ok { IfOk result
         (λ a. PutsIn M.method graph.old graph.new (to_applied b.now) (to_applied x.now) (to_applied t.now) (to_applied a)) }
+    ensures asks { OnOk result (AsksMethod M.substitutes method.old graph.old method.new graph.new) }
     ensures err { OnErr result (IsTrue graph.new.failed ⊎ Grows graph.old graph.new) }
     ensures carries { IsTrue graph.new.failed
         ⊎ CarriesIf (IsKnownMethod M.method) N.codes N.meaning graph.old graph.new }
@@ -71,6 +73,7 @@ fn put_last<L: Language, N: Analysis<L>, M: OwnSubst<L, N>>(
     requires valid { All (IsValidId graph.old) (map to_applied ids.old.items) }
     ensures ok { IfOk result (λ a. PutsLast M.method graph.old graph.new
         (map to_applied ids.old.items) (map to_applied ids.new.items) (to_applied a)) }
+    ensures asks { OnOk result (AsksMethod M.substitutes method.old graph.old method.new graph.new) }
     ensures err { OnErr result (IsTrue graph.new.failed ⊎ Grows graph.old graph.new) }
     ensures carries { IsTrue graph.new.failed
         ⊎ CarriesIf (IsKnownMethod M.method) N.codes N.meaning graph.old graph.new }
@@ -100,6 +103,7 @@ fn build_over<L: Language, N: Analysis<L>, M: OwnSubst<L, N>>(
     requires valid { All (IsValidId graph.old) (map to_applied ids.old.items) }
     ensures ok { IfOk result (λ a. BuildsOver M.method graph.old graph.new (values_of subst.now) (tree_of L.form pattern.now)
         (map to_applied ids.old.items) (map to_applied ids.new.items) (to_applied a)) }
+    ensures asks { OnOk result (AsksMethod M.substitutes method.old graph.old method.new graph.new) }
     ensures err { OnErr result (IsTrue graph.new.failed ⊎ Grows graph.old graph.new) }
     ensures carries { IsTrue graph.new.failed
         ⊎ CarriesIf (IsKnownMethod M.method) N.codes N.meaning graph.old graph.new }
@@ -136,6 +140,7 @@ pub(crate) fn build<L: Language, N: Analysis<L>, M: OwnSubst<L, N>>(
     requires given { HasValues (values_of subst.now) (tree_of L.form pattern.now) }
     ensures ok { IfOk result (λ a. Instantiates M.method graph.old graph.new (values_of subst.now)
         (tree_of L.form pattern.now) (to_applied a)) }
+    ensures asks { OnOk result (AsksMethod M.substitutes method.old graph.old method.new graph.new) }
     ensures err { OnErr result (IsTrue graph.new.failed ⊎ Grows graph.old graph.new) }
     ensures carries { IsTrue graph.new.failed
         ⊎ CarriesIf (IsKnownMethod M.method) N.codes N.meaning graph.old graph.new }

@@ -14,7 +14,7 @@ ghost use Rattle.slotted_rule_patterns.specs.Variables.{first_missing};
 ghost use Rattle.slotted_rules.specs.Building.{Grows};
 ghost use Rattle.slotted_rules.specs.Carried.{CarriesIf};
 ghost use Rattle.slotted_rules.specs.Instances.{AreValidValues, HasValues, Instantiates, IsAnswerFor};
-ghost use Rattle.slotted_rules.specs.Methods.{IsKnownMethod};
+ghost use Rattle.slotted_rules.specs.Methods.{AsksMethod, IsKnownMethod};
 ghost use Rattle.slotted_rules.specs.Refusals.{IsFailedOrShort, IsMissing, PassesTests, RefusesInstance};
 ghost use Rattle.slotted_rules.specs.Refusals.{RefusesMissing, RefusesTerm};
 
@@ -45,6 +45,7 @@ fn instance_by<L: Language, N: Analysis<L>, M: OwnSubst<L, N>>(
     ensures ok { IfOk result (λ a. Instantiates M.method graph.old graph.new (values_of subst.now)
         (tree_of L.form pattern.now) (to_applied a)) }
     ensures given { OnOk result (HasValues (values_of subst.now) (tree_of L.form pattern.now)) }
+    ensures asks { OnOk result (AsksMethod M.substitutes method.old graph.old method.new graph.new) }
     ensures err { OnErr result (IsTrue graph.new.failed ⊎ Grows graph.old graph.new) }
     ensures missing { IsSome (first_missing (tree_of L.form pattern.now) (values_of subst.now))
         → RefusesMissing (values_of subst.now) (tree_of L.form pattern.now) result × (graph.new ≡ graph.old) }
@@ -59,7 +60,7 @@ fn instance_by<L: Language, N: Analysis<L>, M: OwnSubst<L, N>>(
 }
 
 /// Returns the id of an instance of the pattern, as `pattern_subst` does, but by the caller's method for each `b[x :=
-/// t]`. Nothing is said of what the method asserts. No class is modified, unless the method does so.
+/// t]`. Nothing else asserts or modifies anything.
 pub fn subst_with<L: Language, N: Analysis<L>, M: OwnSubst<L, N>>(
     alloc: Global,
     graph: &mut EGraph<L, N>,
@@ -73,6 +74,9 @@ pub fn subst_with<L: Language, N: Analysis<L>, M: OwnSubst<L, N>>(
     ensures instance { IfOk result (λ a. IsKnownMethod M.method
         → IsAnswerFor M.method graph.old graph.new (values_of subst.now) (tree_of L.form pattern.now) (to_applied a)) }
     ensures extends { IsTrue graph.new.failed ⊎ ExtendsTo graph.old graph.new }
+
+    // All that is asserted, the method asserts when it is asked.
+    ensures asks { OnOk result (AsksMethod M.substitutes method.old graph.old method.new graph.new) }
 
     // Data is only lowered. If the method is known, new classes, and those whose data has changed, wait to be modified.
     ensures carries { IsTrue graph.new.failed

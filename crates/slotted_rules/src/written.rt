@@ -10,6 +10,7 @@ ghost use Rattle.slotted_graph.specs.Analysed.{LowersData};
 ghost use Rattle.slotted_graph.specs.Extension.{ExtendsTo};
 ghost use Rattle.slotted_graph.specs.Matching.{AreValidValues};
 ghost use Rattle.slotted_graph.specs.States.{IsGraph};
+ghost use Rattle.slotted_rules.specs.Between.{AnswersBetween};
 ghost use Rattle.slotted_rules.specs.Carried.{CarriesAlong};
 ghost use Rattle.slotted_rules.specs.Refusals.{HavePassed};
 ghost use Rattle.slotted_rules.specs.Uniting.{UnitesInstances};
@@ -133,6 +134,12 @@ fn apply_found<L: Language, N: Analysis<L>, C: Cond<L, N>>(
     requires found { CanBeApplied (tree_of L.form rule.now.left) found.now graph.old }
     ensures applied { IfOk result (LeavesUnited (C.answers rule.now.condition) (tree_of L.form rule.now.left)
         (tree_of L.form rule.now.right) (string_bytes rule.now.name) found.now graph.old graph.new) }
+    ensures between { IfOk result (LeavesUnited
+        (AnswersBetween N.codes N.meaning (C.answers rule.now.condition) graph.old graph.new) (tree_of L.form rule.now.left)
+        (tree_of L.form rule.now.right) (string_bytes rule.now.name) found.now graph.old graph.new) }
+    ensures held { IsTrue graph.new.failed ⊎ AreFromRule
+        (AnswersBetween N.codes N.meaning (C.answers rule.now.condition) graph.old graph.new) (tree_of L.form rule.now.left)
+        (tree_of L.form rule.now.right) (string_bytes rule.now.name) found.now graph.old graph.new }
     ensures extends { IsTrue graph.new.failed ⊎ ExtendsTo graph.old graph.new }
     ensures carries { IsTrue graph.new.failed ⊎ CarriesAlong N.codes N.meaning graph.old graph.new }
     ensures origin { IsTrue graph.new.failed ⊎ AreFromRule (C.answers rule.now.condition) (tree_of L.form rule.now.left)
@@ -167,6 +174,15 @@ pub fn apply_matches<L: Language, N: Analysis<L>, C: Cond<L, N>>(
     requires found { IsTrue graph.old.failed ⊎ CanBeApplied (tree_of L.form rule.now.left) found.now graph.old }
     ensures ok { IfOk result (LeavesUnited (C.answers rule.now.condition) (tree_of L.form rule.now.left)
         (tree_of L.form rule.now.right) (string_bytes rule.now.name) found.now graph.old graph.new) }
+
+    // Each condition was asked in a graph between, to which and from which data only went down. So it is after a refusal.
+    ensures between { IfOk result (LeavesUnited
+        (AnswersBetween N.codes N.meaning (C.answers rule.now.condition) graph.old graph.new) (tree_of L.form rule.now.left)
+        (tree_of L.form rule.now.right) (string_bytes rule.now.name) found.now graph.old graph.new) }
+    ensures held { IsTrue graph.new.failed ⊎ AreFromRule
+        (AnswersBetween N.codes N.meaning (C.answers rule.now.condition) graph.old graph.new) (tree_of L.form rule.now.left)
+        (tree_of L.form rule.now.right) (string_bytes rule.now.name) found.now graph.old graph.new }
+
     ensures origin { IsTrue graph.new.failed ⊎ AreFromRule (C.answers rule.now.condition) (tree_of L.form rule.now.left)
         (tree_of L.form rule.now.right) (string_bytes rule.now.name) found.now graph.old graph.new }
     ensures extends { IsTrue graph.new.failed ⊎ ExtendsTo graph.old graph.new }
@@ -260,6 +276,15 @@ impl<L: Language, N: Analysis<L>, C: Cond<L, N>> RewriteT<L, N> for Rewrite<L, C
         // What was applied before a refusal stays.
         ensures origin { IsTrue graph.new.failed ⊎ AreFromRule (C.answers self.now.condition) (tree_of L.form self.now.left)
             (tree_of L.form self.now.right) (string_bytes self.now.name) found graph.old graph.new }
+
+        // Each condition was asked in a graph between, to which and from which data only went down.
+        ensures between { OnOk result (LeavesApplied
+            (AnswersBetween N.codes N.meaning (C.answers self.now.condition) graph.old graph.new) (tree_of L.form self.now.left)
+            (tree_of L.form self.now.right) (string_bytes self.now.name) found graph.old graph.new) }
+        ensures held { IsTrue graph.new.failed ⊎ AreFromRule
+            (AnswersBetween N.codes N.meaning (C.answers self.now.condition) graph.old graph.new) (tree_of L.form self.now.left)
+            (tree_of L.form self.now.right) (string_bytes self.now.name) found graph.old graph.new }
+
         ensures extends { IsTrue graph.new.failed ⊎ ExtendsTo graph.old graph.new }
         ensures lowers { IsTrue graph.new.failed ⊎ LowersData N.codes N.meaning graph.old graph.new }
         ensures carries { IsTrue graph.new.failed ⊎ CarriesAlong N.codes N.meaning graph.old graph.new }

@@ -4,6 +4,7 @@ use crate::own_conditions::{FirstOnly, RefusesLater};
 use crate::own_graphs::{bare_sum, compare, put, term_text, unite};
 use crate::own_methods::Asserting;
 use crate::own_rules::Union;
+use crate::searched::{count_all, count_in, replaced};
 use slotted_graph::EGraph;
 use slotted_patterns::Pattern;
 use slotted_rule_patterns::Subst;
@@ -110,6 +111,17 @@ fn own_instance(
     subst_with(alloc, graph, pattern, &subst, &mut Asserting)
 }
 
+// Returns the canonical term of `b[x := t]`, for three terms `B, X, T`.
+fn replaced_text(alloc: Global, graph: &mut EGraph<Small>, texts: &str) -> Result<String, Error> {
+    let (b, texts) = parted(texts, ", ");
+    let (x, t) = parted(texts, ", ");
+    let b = put(graph, b)?;
+    let x = put(graph, x)?;
+    let t = put(graph, t)?;
+    let id = replaced(alloc, graph, &b, &x, &t)?;
+    term_text(alloc, graph, &id)
+}
+
 // Returns the canonical term of an instance of a text `P`, or of `P by Q` over the first match of `Q`.
 fn instance_text(
     alloc: Global,
@@ -179,6 +191,20 @@ fn count(alloc: Global, graph: &mut EGraph<Small>, text: &str) -> Result<usize, 
     Ok(found.len())
 }
 
+// Returns how many substitutions a search for a pattern finds.
+fn count_each(alloc: Global, graph: &mut EGraph<Small>, text: &str) -> Result<usize, Error> {
+    let searched = pattern(alloc, graph, text)?;
+    count_all(alloc, graph, &searched)
+}
+
+// Returns how many matches the pattern of `P in T` has in the class of the term.
+fn count_within(alloc: Global, graph: &mut EGraph<Small>, texts: &str) -> Result<usize, Error> {
+    let (text, term) = parted(texts, " in ");
+    let id = put(graph, term)?;
+    let searched = pattern(alloc, graph, text)?;
+    count_in(graph, &id, &searched)
+}
+
 // Returns the answer to a question of yes or no.
 fn is_so(alloc: Global, graph: &mut EGraph<Small>, word: &str, text: &str) -> Result<bool, Error> {
     match word {
@@ -204,6 +230,8 @@ fn number(
     match word {
         "asserted" => Ok(graph.asserted().len()),
         "proved" => Ok(graph.proof_count()),
+        "substitutions" => count_each(alloc, graph, text),
+        "matches in" => count_within(alloc, graph, text),
         _ => count(alloc, graph, text),
     }
 }
@@ -230,12 +258,16 @@ impl Told {
 // Returns the answer to a word over a text.
 fn asked(alloc: Global, graph: &mut EGraph<Small>, word: &str, text: &str) -> Result<Told, Error> {
     match word {
-        "asserted" | "proved" | "matches" => {
+        "asserted" | "proved" | "matches" | "substitutions" | "matches in" => {
             let answer = number(alloc, graph, word, text)?;
             Ok(Told::Number(answer))
         }
         "subst" | "subst at" | "own subst" => {
             let answer = instance_text(alloc, graph, word, text)?;
+            Ok(Told::Text(answer))
+        }
+        "replaced" => {
+            let answer = replaced_text(alloc, graph, text)?;
             Ok(Told::Text(answer))
         }
         _ => {

@@ -28,6 +28,7 @@ mod refusing;
 mod reports;
 mod rules;
 mod runs;
+mod searched;
 mod tired;
 mod units;
 mod walking;

@@ -12,6 +12,10 @@ use std::alloc::Global;
 pub struct Asserting;
 
 impl<L: Language, N: Analysis<L>> OwnSubst<L, N> for Asserting {
+    ghost use Rattle.std.specs.Prelude.{◌≡◌};
+
+    ghost substitutes = { λ k g b x t a l h. a ≡ b };
+
     ghost refuses = { λ e. ⊥ };
 
     ghost never_failed = { λ r. r };

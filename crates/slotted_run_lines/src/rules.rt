@@ -7,12 +7,14 @@
 //! A line `---` begins a session over a new graph, whose substitutions look into canonical terms, and `--- extraction`
 //! one whose substitutions look into terms of fewest e-nodes.
 //!
-//! - `union`, `equal`, `matches`, `asserted`, `failed`, `looked up` ask of a graph.
+//! - `union`, `equal`, `matches`, `asserted`, `failed`, `looked up` ask of a graph. `substitutions P` counts what
+//!   `ematch_all` finds, and `matches in P in T` what `find_matches_in` finds in the class of a term.
 //! - `apply`, `apply first`, `apply refusing` apply the rule `L ~> R` without a condition, under one that holds as long
 //!   as nothing was asserted, and under one that is refused from then on. `apply own` applies a rule that unites two
 //!   terms.
 //! - `subst P`, `subst at P by Q` and `own subst P` answer the canonical term of an instance: over no values, over the
-//!   first match of a pattern, and by a method of substitution that asserts that the part equals the value.
+//!   first match of a pattern, and by a method of substitution that asserts that the part equals the value. `replaced B,
+//!   X, T` answers that of `subst_ids` for three terms.
 //! - `unite L ~> R` unites two instances. `bare` is a sum without summands, which no text writes.
 //! - `refuses WHAT` fails the graph, and asks whether it refuses all calls over `patterns`, `own rules` or a `term`.
 

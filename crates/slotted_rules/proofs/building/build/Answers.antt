@@ -7,7 +7,9 @@ use Rattle.slotted_patterns.proofs.PieceTexts.{nothing}
 use Rattle.slotted_proofs.specs.Equations.{to_applied}
 use Rattle.slotted_rule_patterns.specs.Values.{values_of}
 use Rattle.slotted_rules.proofs.Carrying.{carries-itself, carries-on, later-carries}
+use Rattle.slotted_rules.specs.Methods.{not_asked}
 use Rattle.slotted_rules.specs.Stacked.{IsReady}
+use Rattle.slotted_rules.proofs.AskedMethods.{asks-then}
 use Rattle.slotted_rules.proofs.Answering.{err-then}
 use Rattle.slotted_rules.proofs.Growing.{grows-itself, grows-then, later-grows}
 use Rattle.slotted_rules.proofs.StackedInstances.{Waits, instances-length, next-enough, next-ready, only-one, waits-end, waits-start, waits-step, waits-valid}
@@ -22,6 +24,7 @@ loop-next-init g c =
     record {
       waits = waits-start g.M.OwnSubst.method c.args.graph.now (values_of c.args.subst.now) (tree c.args.pattern.now) (map (λ p. tree p.now) c.in_ok-left.left.items) (map to_applied c.new-ids.result.items) c.requires.graph c.in_ok-left.ensures.ok (ap (map to_applied) c.new-ids.ensures.items);
       carries = carries-itself g.N.Analysis.codes g.N.Analysis.meaning g.met.N.Analysis.is_merge c.args.graph.now;
+      asks = not_asked;
     }
 
 pub build_over-requires-clause-ready : goal.build_over-requires-clause-ready
@@ -96,6 +99,7 @@ loop-next-preserved g c =
       waits = waits-step m g0 h s p x left ids w c.build_over.new.graph (map to_applied c.build_over.new.ids.items) (map to_applied c.push.new.self.items) (to_applied c.in_ok-id.id) c.requires.graph ready c.in_ok-id.ensures.ok
           (ap (map to_applied) c.in_ok-push.ensures.items ∙ map-append to_applied c.build_over.new.ids.items (c.in_ok-id.id ∷ []));
       carries = carries-on g.N.Analysis.codes g.N.Analysis.meaning g.met.N.Analysis.is_merge g0 h f w.makes.grows.extends c.loop-next.invariant.carries c.in_ok-id.ensures.ok.makes.grows.graph.well c.build_over.ensures.carries;
+      asks = asks-then g.M.OwnSubst.substitutes c.args.method.now g0 c.loop-next.invariant.asks c.in_ok-id.ensures.asks;
     }
 
 pub returns-in_err-push-clause-err : goal.returns-in_err-push-clause-err

@@ -4,7 +4,7 @@ use Rattle.slotted_patterns.specs.View.{tree_of}
 use Rattle.slotted_proofs.specs.Equations.{to_applied}
 use Rattle.slotted_rule_patterns.specs.Values.{values_of}
 use Rattle.slotted_rules.specs.Carried.{CarriesIf}
-use Rattle.slotted_rules.specs.Methods.{IsKnownMethod}
+use Rattle.slotted_rules.specs.Methods.{AsksMethod, IsKnownMethod}
 use Rattle.slotted_rules.proofs.StackedInstances.{Waits}
 use Rattle.slotted_rules.proofs.building.build.Given as goal
 
@@ -14,6 +14,7 @@ invariant-loop-next g l =
     record {
       waits : Waits g.M.OwnSubst.method l.fn.graph l.graph (values_of l.subst) (tree l.pattern) (map (λ p. tree p.now) l.left.items) (map to_applied l.ids.items);
       carries : CarriesIf (IsKnownMethod g.M.OwnSubst.method) g.N.Analysis.codes g.N.Analysis.meaning l.fn.graph l.graph;
+      asks : AsksMethod g.M.OwnSubst.substitutes l.fn.method l.fn.graph l.method l.graph;
     }
 
 abbrev pub decreases-loop-next : goal.decreases-loop-next

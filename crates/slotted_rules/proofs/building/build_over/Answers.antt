@@ -19,6 +19,7 @@ use Rattle.slotted_rules.proofs.Answering.{err-mapped, err-then, ok-added, ok-co
 use Rattle.slotted_rules.proofs.Growing.{grows-itself, later-built}
 use Rattle.slotted_rules.proofs.Parts.{ready-count, ready-node}
 use Rattle.slotted_rules.proofs.StackedInstances.{last-count, last-valid, over-children, over-known, over-node, over-substitution, over-variable}
+use Rattle.slotted_rules.proofs.AskedMethods.{asks-built, asks-none}
 use Rattle.slotted_rules.proofs.building.build_over.Goals as goal
 
 pub over_last-requires : goal.over_last-requires
@@ -140,3 +141,9 @@ returns-in_ok-over-in-ENode-clause-carries g c = failed-or-for g.N.Analysis.code
 
 pub returns-in-Some-clause-carries : goal.returns-in-Some-clause-carries
 returns-in-Some-clause-carries g c = inr (carries-itself g.N.Analysis.codes g.N.Analysis.meaning g.met.N.Analysis.is_merge c.args.graph.now)
+
+pub returns-in_ok-over-in-ENode-clause-asks : goal.returns-in_ok-over-in-ENode-clause-asks
+returns-in_ok-over-in-ENode-clause-asks g c = asks-built g.M.OwnSubst.substitutes c.args.method.now c.args.graph.now c.add_node.new.graph c.add_node.result c.add_node.ensures.builds
+
+pub returns-in-Some-clause-asks : goal.returns-in-Some-clause-asks
+returns-in-Some-clause-asks g c = asks-none g.M.OwnSubst.substitutes c.args.method.now c.args.graph.now c.copy-in-Some.result

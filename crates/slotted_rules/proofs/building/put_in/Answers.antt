@@ -5,6 +5,7 @@ use Rattle.slotted_rules.proofs.Carrying.{carries-takes, carries-then, filled-ca
 use Rattle.slotted_rules.proofs.Answering.{err-then}
 use Rattle.slotted_rules.proofs.Growing.{extended-grows, filled-grows, grows-takes, grows-then, later-grows}
 use Rattle.slotted_rules.proofs.Putting.{ok-put}
+use Rattle.slotted_rules.proofs.AskedMethods.{asks-filled, asks-once}
 use Rattle.slotted_rules.proofs.building.put_in.Goals as goal
 
 pub returns-in_err-b-clause-err : goal.returns-in_err-b-clause-err
@@ -66,3 +67,8 @@ returns-clause-carries g c =
     let i = c.full_id-3.new.self in
     let filled = filled-carries g.N.Analysis.codes g.N.Analysis.meaning g.met.N.Analysis.is_merge c.args.graph.now c.full_id.new.self c.full_id-2.new.self i c.full_id.ensures.takes c.full_id-2.ensures.takes c.full_id-3.ensures.takes in
     later-carries g.N.Analysis.codes g.N.Analysis.meaning g.met.N.Analysis.is_merge c.args.graph.now i c.subst-answer.new.graph filled.0 filled.1 c.subst-answer.ensures.carries
+
+pub returns-clause-asks : goal.returns-clause-asks
+returns-clause-asks g c =
+    let before = asks-filled g.M.OwnSubst.substitutes c.args.method.now c.args.graph.now c.full_id.new.self c.full_id-2.new.self c.full_id-3.new.self c.full_id.ensures.takes c.full_id-2.ensures.takes c.full_id-3.ensures.takes in
+    asks-once g.M.OwnSubst.substitutes c.args.method.now c.args.graph.now c.subst-answer.new.self c.subst-answer.new.graph (to_applied c.in_ok-b.b) (to_applied c.in_ok-x.x) (to_applied c.in_ok-t.t) to_applied c.subst-answer.result before c.subst-answer.ensures.asked c.subst-answer.ensures.fails c.subst-answer.ensures.extends

@@ -1,8 +1,10 @@
-use Rattle.std.specs.Prelude.{string_bytes}
+use Rattle.std.specs.Prelude.{ℕ, string_bytes}
 use Rattle.slotted_patterns.specs.View.{tree_of}
-use Rattle.slotted_rules.specs.Rewriting.{AreFromRule, BreaksOff}
+use Rattle.slotted_rules.specs.Rewriting.{AreFromRule, BreaksOff, LeavesUnited}
+use Rattle.slotted_operations.specs.Graph.{Graph}
+use Rattle.slotted_rules.specs.Between.{AnswersBetween}
 use Rattle.slotted_rules.specs.Carried.{CarriesAlong}
-use Rattle.slotted_rules.proofs.LeftGraphs.{left-so, left-err}
+use Rattle.slotted_rules.proofs.LeftGraphs.{left-ok, left-so, left-err}
 use Rattle.slotted_rules.proofs.written.apply_matches.Goals as goal
 
 pub returns-clause-origin : goal.returns-clause-origin
@@ -21,3 +23,17 @@ returns-clause-left g c =
     left-err c.args.graph.now a.new.graph c.failing.new.graph a.result c.failing.result c.failing.ensures.same c.failing.ensures.short c.failing.ensures.other
     (λ e h. BreaksOff (g.C.Cond.answers c.args.rule.now.condition) (g.C.Cond.refuses c.args.rule.now.condition) (tree_of form c.args.rule.now.left) (tree_of form c.args.rule.now.right) (string_bytes c.args.rule.now.name) c.args.found.now c.args.graph.now h e)
     a.ensures.left
+
+pub returns-clause-held : goal.returns-clause-held
+returns-clause-held g c =
+    let form = g.L.LanguageChildren.form in
+    left-so (λ (h : Graph). AreFromRule (AnswersBetween g.N.Analysis.codes g.N.Analysis.meaning (g.C.Cond.answers c.args.rule.now.condition) c.args.graph.now h) (tree_of form c.args.rule.now.left) (tree_of form c.args.rule.now.right) (string_bytes c.args.rule.now.name) c.args.found.now c.args.graph.now h)
+    c.apply_found-applied.new.graph c.failing.new.graph c.apply_found-applied.result c.apply_found-applied.ensures.held c.failing.ensures.short c.failing.ensures.other
+
+pub returns-clause-between : goal.returns-clause-between
+returns-clause-between g c =
+    let form = g.L.LanguageChildren.form in
+    let a = c.apply_found-applied in
+    left-ok c.args.graph.now a.new.graph c.failing.new.graph a.result c.failing.result c.failing.ensures.same c.failing.ensures.short c.failing.ensures.other
+    (λ (n : ℕ) (h : Graph). LeavesUnited (AnswersBetween g.N.Analysis.codes g.N.Analysis.meaning (g.C.Cond.answers c.args.rule.now.condition) c.args.graph.now h) (tree_of form c.args.rule.now.left) (tree_of form c.args.rule.now.right) (string_bytes c.args.rule.now.name) c.args.found.now c.args.graph.now h n)
+    a.ensures.between
