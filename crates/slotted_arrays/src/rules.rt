@@ -29,8 +29,9 @@ const WALKS: [&str; 5] = ["map", "zip", "reduce", "slide", "transpose"];
 
 const WALK_COST: u64 = 100;
 
-/// Keeps the rules in a workspace.
+/// Keeps the rules in a workspace, as sparing ones.
 pub fn keep_rules(workspace: &mut Workspace<SymbolLang>) -> Result<(), WorkspaceError> {
+    workspace.set_sparing(true);
     for rule in &RULES {
         workspace.rule_text(rule)?;
     }

@@ -16,6 +16,7 @@ pub fn answer(shell: &mut Shell, word: &str, rest: &str) -> Result<String, Troub
     match word {
         "op" => shell.declare(rest),
         "rule" => keep_rule(shell, rest),
+        "sparing" => set_sparing(shell, rest),
         "add" => {
             shell.add(rest)?;
             ok(shell.alloc)
@@ -56,6 +57,21 @@ fn show(shell: &mut Shell, word: &str, rest: &str) -> Result<String, Trouble> {
             format!(in shell.alloc; "`{word}` is none; `help` lists all")?,
         )),
     }
+}
+
+// Makes the rules sparing that are kept from now on, or no longer.
+fn set_sparing(shell: &mut Shell, text: &str) -> Result<String, Trouble> {
+    let alloc = shell.alloc;
+    let sparing = match text {
+        "on" => true,
+        "off" => false,
+        _ => {
+            let wanted = String::from_str(alloc, "`sparing on` or `sparing off` is wanted")?;
+            return Err(Trouble::form(wanted));
+        }
+    };
+    shell.workspace.set_sparing(sparing);
+    ok(alloc)
 }
 
 fn unite(shell: &mut Shell, text: &str) -> Result<String, Trouble> {

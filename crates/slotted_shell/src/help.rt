@@ -5,6 +5,7 @@ use std::alloc::Global;
 const ALL: &str =
     "op TERM                  declares an operator by an example, as `op (sum n $i body)`; then others are refused
 rule NAME: L => R        keeps a rule; `<=>` keeps both directions; ` if $x not in ?v and $y in ?w` may follow
+sparing on, sparing off  whether the rules that follow pass over matches whose sides are found equal already
 add T                    adds a term
 union T == U             asserts an equation; ` because NAME` may follow
 eq T == U                yes or no; `not decided` if the graph has too many symmetries
@@ -37,6 +38,10 @@ fn example(word: &str) -> Option<&'static str> {
   $x not in ?f: the slot $x does not occur in what stands for ?f
 rule assoc: (add ?a (add ?b ?c)) <=> (add (add ?a ?b) ?c)
 rule beta: (app (lam $x ?b) ?t) => ?b[(var $x) := ?t]",
+        ),
+        "sparing" => Some(
+            "sparing on
+  rules kept from then on add nothing for a match whose sides are found equal already, so a run makes fewer classes",
         ),
         "union" => Some("union (f a) == b because assumption"),
         "run" => Some(

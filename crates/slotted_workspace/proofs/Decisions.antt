@@ -22,8 +22,6 @@ use Rattle.slotted_explain.specs.Printed.{IsProofText}
 use Rattle.slotted_graph.proofs.Extending.{extends-itself}
 use Rattle.slotted_rules.specs.Applying.{AreRefusedBy, NeverModified}
 use Rattle.slotted_rules.specs.Counting.{RefusesRule}
-use Rattle.slotted_rules.specs.TreeAnswers.{AnswersTree, TreeRefuses}
-use Rattle.slotted_rules.specs.declared.condition_tree.CondTree.{CondTree}
 use Rattle.slotted_rules.specs.declared.rewrite.Rewrite.{Rewrite}
 use Rattle.slotted_rules.proofs.Modified.{never-changed}
 use Rattle.slotted_deciding.specs.Equality.{IsDecidedGraph}
@@ -42,6 +40,8 @@ use Rattle.slotted_workspace.specs.Keeping.{IsKept}
 use Rattle.slotted_workspace.specs.declared.kept.Kept.{Kept}
 use Rattle.slotted_workspace.proofs.Saying.{follows, kept-answered, terms-equal}
 use Rattle.slotted_workspace.proofs.Staying.{kept-later}
+use Rattle.slotted_workspace.specs.declared.sparing.RuleCondition.{RuleCondition}
+use Rattle.slotted_workspace.specs.Sparing.{AnswersRule, RuleRefuses}
 
 -- nothing is lost in a graph that goes on
 pub goes-extends : (g h : Graph) → IsTrue h.failed ⊎ GoesTo g h → IsTrue h.failed ⊎ ExtendsTo g h
@@ -115,19 +115,19 @@ decided-ok g h (Err e) failed goes fails decided kept = tt
 decided-ok g h (Ok y) failed goes fails decided kept = record { well = sound_graph g.failed (Ok y) y refl failed.1; goes = goes-well g h (Ok y) y refl goes fails; decided = decided; kept = kept }
 
 -- a run of rules
-module _ {L : Type 0} (form : L → Form) (rules : List (Rewrite L CondTree)) (limits : DecidedLimits) (g h : Graph) where
+module _ {L : Type 0} (form : L → Form) (rules : List (Rewrite L (RuleCondition L))) (limits : DecidedLimits) (g h : Graph) where
   abbrev Refused : Error → Type 0
-  Refused e = AreRefusedBy (RefusesRule form (λ c s _. TreeRefuses c s)) rules e
+  Refused e = AreRefusedBy (RefusesRule form (λ c s _. RuleRefuses c s)) rules e
 
   never-extends : (a b : Graph) → NeverModified L a b → ExtendsTo a b
   never-extends a b m = subst (ExtendsTo a) (sym (never-changed L a b m)) (extends-itself a)
 
-  pub run-decided : (r : Result DecidedRun Error) → (IsErrOf r Failed ↔ IsTrue g.failed) → IfOk r (HasRunDecided form (λ c s _. AnswersTree c s) rules (NeverModified L) limits g h) → IfOk r (RunsDecided form rules limits g h)
+  pub run-decided : (r : Result DecidedRun Error) → (IsErrOf r Failed ↔ IsTrue g.failed) → IfOk r (HasRunDecided form (AnswersRule form) rules (NeverModified L) limits g h) → IfOk r (RunsDecided form rules limits g h)
   run-decided (Err e) failed run = tt
   run-decided (Ok r) failed run = record {
     well = sound_graph g.failed (Ok r) r refl failed.1;
     run = run;
-    origins = decided-rules form (λ c s _. AnswersTree c s) rules (NeverModified L) never-extends g h r.turns.items (never-changed L) run.turns;
+    origins = decided-rules form (AnswersRule form) rules (NeverModified L) never-extends g h r.turns.items (never-changed L) run.turns;
   }
 
   pub run-refused : (r : Result DecidedRun Error) → (IsErrOf r Failed ↔ IsTrue g.failed) → (IsTrue g.failed → h ≡ g) → IsTrue h.failed ⊎ ExtendsTo g h → IfErr r (λ e. (e ≡ Failed) ⊎ CanRefuse e ⊎ Refused e) → IfErr r (DecidedRunRefused form rules g h)

@@ -3,6 +3,7 @@ pub mod Places
 pub mod Staying
 pub mod Saying
 pub mod Readings
+pub mod KeptRules
 pub mod Rules
 pub mod RuleTexts
 pub mod Explanations

@@ -8,8 +8,6 @@ use Rattle.slotted_graph.specs.Extension.{ExtendsTo}
 use Rattle.slotted_graph.proofs.Extending.{extends-itself}
 use Rattle.slotted_rules.specs.Applying.{NeverModified}
 use Rattle.slotted_rules.specs.RuleOrigins.{AreFromRules}
-use Rattle.slotted_rules.specs.TreeAnswers.{AnswersTree}
-use Rattle.slotted_rules.specs.declared.condition_tree.CondTree.{CondTree}
 use Rattle.slotted_rules.specs.declared.rewrite.Rewrite.{Rewrite}
 use Rattle.slotted_rules.proofs.Modified.{never-changed}
 use Rattle.slotted_rules.specs.Eqsat.{counts_of, report_of}
@@ -20,18 +18,20 @@ use Rattle.slotted_workspace.specs.Runs.{HasRun, OfRules, StopsPast, endless, le
 use Rattle.slotted_workspace.specs.Spaces.{Space}
 use Rattle.slotted_workspace.specs.declared.running.Limits.{Limits}
 use Rattle.slotted_workspace.specs.Saturating.{HasRulesRun, is_saturated}
+use Rattle.slotted_workspace.specs.declared.sparing.RuleCondition.{RuleCondition}
+use Rattle.slotted_workspace.specs.Sparing.{AnswersRule}
 
 -- the hook leaves the graph as it is
 limit-still : (n : ℕ) (g h : Graph) (stop : Option (String Global)) → StopsPast n g h stop → h ≡ g
 limit-still n g h None says = says.0
 limit-still n g h (Some text) says = says.0
 
-pub run-from-rules : {L : Type 0} (form : L → Form) (rules : List (Rewrite L CondTree)) (turns nodes : ℕ) (g h : Graph) (r : Report (String Global)) → HasRun form rules turns nodes g h r →
-    AreFromRules form (λ c values _. AnswersTree c values) rules g h
+pub run-from-rules : {L : Type 0} (form : L → Form) (rules : List (Rewrite L (RuleCondition L))) (turns nodes : ℕ) (g h : Graph) (r : Report (String Global)) → HasRun form rules turns nodes g h r →
+    AreFromRules form (AnswersRule form) rules g h
 run-from-rules {L} form rules turns nodes g h r run =
-    rules-alone form (λ c values _. AnswersTree c values) rules (NeverModified L) grows leaves_by (λ k l f i n stop says. subst (ExtendsTo f) (sym (limit-still k.nodes f i stop says.0)) (extends-itself f)) g h
+    rules-alone form (AnswersRule form) rules (NeverModified L) grows leaves_by (λ k l f i n stop says. subst (ExtendsTo f) (sym (limit-still k.nodes f i stop says.0)) (extends-itself f)) g h
     (λ k l f i n stop says. limit-still k.nodes f i stop says.0) (never-changed L)
-    (eqsat-origins form (λ c values _. AnswersTree c values) rules (NeverModified L) grows leaves_by (λ k l f i n stop says. subst (ExtendsTo f) (sym (limit-still k.nodes f i stop says.0)) (extends-itself f)) counts_of turns endless (reading_in run.reported.readings) 0
+    (eqsat-origins form (AnswersRule form) rules (NeverModified L) grows leaves_by (λ k l f i n stop says. subst (ExtendsTo f) (sym (limit-still k.nodes f i stop says.0)) (extends-itself f)) counts_of turns endless (reading_in run.reported.readings) 0
     (g, run.hook) (h, run.last) (report_of r) run.reported.by_turns)
   where
     grows : (f i : Graph) → NeverModified L f i → ExtendsTo f i

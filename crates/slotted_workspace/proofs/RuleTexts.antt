@@ -1,6 +1,6 @@
 -- What the conditions and the rules of a text leave of the graph.
 use Rattle.std.proofs.Common.{◌≡◌, ◌⊎◌, ◌∙◌, ◌++◌, ℕ, List, [], ◌∷◌, refl, subst, sym, inl, inr}
-use Rattle.std.specs.Prelude.{IsTrue, Option, false, true}
+use Rattle.std.specs.Prelude.{Bool, IsTrue, Option, false, true}
 use Rattle.slotted_slots.specs.declared.error.Error.{Error}
 use Rattle.slotted_slots.specs.declared.error.Error.TheVariants.{OutOfMemory}
 use Rattle.slotted_slots.specs.Syntax.{Element}
@@ -16,6 +16,7 @@ use Rattle.slotted_rules.specs.declared.condition_tree.CondTree.{CondTree}
 use Rattle.slotted_rules.specs.declared.rewrite.Rewrite.{Rewrite}
 use Rattle.slotted_workspace.specs.Asked.{HadFailed}
 use Rattle.slotted_workspace.specs.RuleTexts.{AsksAll, ConditionRefused, ConditionalRefused, IsBothOf, IsConditionFor, ReadsConditional, ReadsRules, RulesRefused, asks_more, back_refused, both_ways, name_back, no_memory, one_way}
+use Rattle.slotted_workspace.specs.Spaces.{WrittenRule}
 
 -- a graph from which only texts were read, and none if it had failed
 pub record HasRead (g k : Graph) : Type 0 where
@@ -70,9 +71,15 @@ one-more t u v cs c first next x slot asks named is both =
     subst (λ (y : CondTree). AsksAll t y (cs ++ c ∷ []) v) (sym both.is)
     (asks_more t u v a b cs c slot (subst (λ (y : CondTree). AsksAll t y cs u) (sym both.left_is) asks) named (subst (IsConditionFor c slot) (sym both.right_is) is))
 
+-- both rules were read
+module _ {L : Type 0} (form : L → Form) (read : List Element → Option Form) (g k h : Graph) (a : Rule) (r q : Rewrite L CondTree) (first : ReadsConditional form read g k a.name a.left a.right a.conditions r) (second : ReadsConditional form read k h (name_back a.name) a.right a.left a.conditions q) where
+  both-only : OnlyReads g h
+  both-only = reads_twice g k h (conditional-only form read g k a.name a.left a.right a.conditions r first) (conditional-only form read k h (name_back a.name) a.right a.left a.conditions q second)
+
+  pub both-not_kept : (e : Error) → e ≡ OutOfMemory → RulesRefused form read g h a e
+  both-not_kept e memory = no_memory both-only memory
+
 -- texts alone were read for the rules
-pub rules-only : {L : Type 0} (form : L → Form) (read : List Element → Option Form) (g h : Graph) (a : Rule) (rules : List (Rewrite L CondTree)) → ReadsRules form read g h a rules → OnlyReads g h
-rules-only form read g h a rules (one_way r back is reads) = conditional-only form read g h a.name a.left a.right a.conditions r reads
-rules-only form read g h a rules (both_ways r q k back is first second) =
-    reads_twice g k h (conditional-only form read g k a.name a.left a.right a.conditions r first)
-    (conditional-only form read k h (name_back a.name) a.right a.left a.conditions q second)
+pub rules-only : {L : Type 0} (form : L → Form) (read : List Element → Option Form) (sparing : Bool) (g h : Graph) (a : Rule) (rules : List WrittenRule) → ReadsRules form read sparing g h a rules → OnlyReads g h
+rules-only form read sparing g h a rules (one_way r back is reads) = conditional-only form read g h a.name a.left a.right a.conditions r reads
+rules-only form read sparing g h a rules (both_ways r q k back is first second) = both-only form read g k h a r q first second

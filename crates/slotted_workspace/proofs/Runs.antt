@@ -12,8 +12,6 @@ use Rattle.slotted_operations.specs.Graph.{Graph}
 use Rattle.slotted_graph.specs.Extension.{ExtendsTo}
 use Rattle.slotted_rules.specs.Applying.{AreRefusedBy, NeverModified}
 use Rattle.slotted_rules.specs.Counting.{RefusesRule}
-use Rattle.slotted_rules.specs.TreeAnswers.{TreeRefuses}
-use Rattle.slotted_rules.specs.declared.condition_tree.CondTree.{CondTree}
 use Rattle.slotted_rules.specs.declared.rewrite.Rewrite.{Rewrite}
 use Rattle.slotted_rules.specs.Eqsat.{HasEqsatReported, HasRefusedEqsat}
 use Rattle.slotted_rules.specs.Turning.{Calls, RulesOnce}
@@ -22,8 +20,10 @@ use Rattle.slotted_commands.proofs.Steps.{not_true, sound_graph}
 use Rattle.slotted_workspace.specs.Runs.{RunAnswers, RunRefused, TellsZero, applies_by, endless, leaves_by, refuses_by, searches_by}
 use Rattle.slotted_workspace.specs.declared.running.NoClock.{NoClock}
 use Rattle.slotted_workspace.specs.declared.running.NodeLimit.{NodeLimit}
+use Rattle.slotted_workspace.specs.declared.sparing.RuleCondition.{RuleCondition}
+use Rattle.slotted_workspace.specs.Sparing.{RuleRefuses}
 
-module _ {L : Type 0} (form : L → Form) (rules : List (Rewrite L CondTree)) (turns : ℕ) (hook last : NodeLimit) (clock later : NoClock) (g h : Graph) (extends : IsTrue h.failed ⊎ ExtendsTo g h) (stays : IsTrue g.failed → h ≡ g) where
+module _ {L : Type 0} (form : L → Form) (rules : List (Rewrite L (RuleCondition L))) (turns : ℕ) (hook last : NodeLimit) (clock later : NoClock) (g h : Graph) (extends : IsTrue h.failed ⊎ ExtendsTo g h) (stays : IsTrue g.failed → h ≡ g) where
   abbrev Reported : Report (String Global) → Type 0
   Reported r = HasEqsatReported TellsZero (RulesOnce (searches_by form) (applies_by form) (NeverModified L) rules) (Calls leaves_by) turns endless (g, hook) clock (h, last) later r
 
@@ -31,7 +31,7 @@ module _ {L : Type 0} (form : L → Form) (rules : List (Rewrite L CondTree)) (t
   Broken e = HasRefusedEqsat TellsZero (RulesOnce (searches_by form) (applies_by form) (NeverModified L) rules) (Calls leaves_by) turns endless (refuses_by form rules) (g, hook) clock (h, last) later e
 
   abbrev Refused : Error → Type 0
-  Refused e = AreRefusedBy (RefusesRule form (λ c s _. TreeRefuses c s)) rules e
+  Refused e = AreRefusedBy (RefusesRule form (λ c s _. RuleRefuses c s)) rules e
 
   pub run-answers : (o : Result (Report (String Global)) Error) → IfOk o Reported → IfErr o (λ e. IsTrue g.failed ⊎ Broken e) → IsErrOf o Failed ↔ IsTrue g.failed → IsTrue h.failed ↔ IsErrAnd o (λ e. (e ≡ Failed) ⊎ IsShortage e) → IfErr o (λ e. (e ≡ Failed) ⊎ IsShortage e ⊎ Refused e ⊎ ⊥) → RunAnswers form rules turns hook.nodes g h o
   run-answers (Ok r) ok refused failed fails err = record {

@@ -11,18 +11,18 @@ use Rattle.slotted_operations.specs.Graph.{Graph}
 use Rattle.slotted_graph.specs.Extension.{ExtendsTo}
 use Rattle.slotted_rules.specs.Applying.{AreRefusedBy, HasProgressed}
 use Rattle.slotted_rules.specs.Counting.{CountsRules, RefusesRule}
-use Rattle.slotted_rules.specs.TreeAnswers.{AnswersTree, TreeRefuses}
-use Rattle.slotted_rules.specs.declared.condition_tree.CondTree.{CondTree}
 use Rattle.slotted_rules.specs.declared.counting.TurnCounts.{TurnCounts}
 use Rattle.slotted_rules.specs.declared.rewrite.Rewrite.{Rewrite}
 use Rattle.slotted_commands.proofs.Steps.{not_true, sound_graph}
 use Rattle.slotted_workspace.specs.Turns.{TakesTurn, TurnRefused}
+use Rattle.slotted_workspace.specs.declared.sparing.RuleCondition.{RuleCondition}
+use Rattle.slotted_workspace.specs.Sparing.{AnswersRule, RuleRefuses}
 
-module _ {L : Type 0} (form : L → Form) (rules : List (Rewrite L CondTree)) (g h : Graph) (extends : IsTrue h.failed ⊎ ExtendsTo g h) (stays : IsTrue g.failed → h ≡ g) where
+module _ {L : Type 0} (form : L → Form) (rules : List (Rewrite L (RuleCondition L))) (g h : Graph) (extends : IsTrue h.failed ⊎ ExtendsTo g h) (stays : IsTrue g.failed → h ≡ g) where
   abbrev Refused : Error → Type 0
-  Refused e = AreRefusedBy (RefusesRule form (λ c s _. TreeRefuses c s)) rules e
+  Refused e = AreRefusedBy (RefusesRule form (λ c s _. RuleRefuses c s)) rules e
 
-  pub turn-taken : (o : Result TurnCounts Error) → IfOk o (λ t. CountsRules form (λ c s _. AnswersTree c s) rules g t.rules.items h) → IfOk o (λ t. IsTrue t.changed ↔ HasProgressed g.image h.image) → IsErrOf o Failed ↔ IsTrue g.failed →
+  pub turn-taken : (o : Result TurnCounts Error) → IfOk o (λ t. CountsRules form (AnswersRule form) rules g t.rules.items h) → IfOk o (λ t. IsTrue t.changed ↔ HasProgressed g.image h.image) → IsErrOf o Failed ↔ IsTrue g.failed →
       IsTrue h.failed ↔ IsErrAnd o (λ e. (e ≡ Failed) ⊎ IsShortage e) → IfOk o (TakesTurn form rules g h)
   turn-taken (Err e) counts changed failed fails = tt
   turn-taken (Ok t) counts changed failed fails = record {

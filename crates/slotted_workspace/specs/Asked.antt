@@ -13,6 +13,7 @@
 --     HasMatches, SearchRefused  how many matches the pattern of a text has, or a refusal
 --     Draws g h, DrawRefused g h e      a picture, or a list of classes, was made, or refused
 --     ReadsRule, RuleRefused     a rule of two texts, or a refusal
+--     ReadsKept form read y ..   what such a rule is kept as: sparing, or as it is
 --     ChangesGraph s v           from s to v the graph alone changes
 --     AddsTerm, KeepsRule        the same of a workspace, which keeps the term, or the rule
 --     Refuses, RefusesOne, RefusesBoth    a handle is unknown, and nothing changes; or the graph refused so, and it alone changed
@@ -55,7 +56,7 @@ use Rattle.slotted_commands.specs.Explained.{AreAddedApart, ExplanationAnswers, 
 use Rattle.slotted_commands.specs.declared.answer.Answer.TheVariants.{Refused}
 use Rattle.slotted_commands.specs.Extracted.{sizes}
 use Rattle.slotted_commands.specs.Sessions.{GainsSyn, IsRefused, RunsOut, WritesTerm, canonically}
-use Rattle.slotted_workspace.specs.Spaces.{Space, rule_of, term_at}
+use Rattle.slotted_workspace.specs.Spaces.{Space, WrittenRule, kept_as, term_at}
 use Rattle.slotted_workspace.specs.declared.error.WorkspaceError.{WorkspaceError}
 use Rattle.slotted_workspace.specs.declared.error.WorkspaceError.TheVariants.{UnknownHandle}
 use Rattle.slotted_workspace.specs.declared.error.WorkspaceError.TheVariants as refused
@@ -246,11 +247,17 @@ pub record ReadsRule {L : Type 0} (form : L → Form) (read : List Element → O
   pub asked : first_unread (tree_of form r.left) (tree_reads condition) ≡ None
   pub only : OnlyReads g h
 
+-- the rule of both texts is kept as that one
+pub record ReadsKept {L : Type 0} (form : L → Form) (read : List Element → Option Form) (sparing : Bool) (g h : Graph) (name left right : List ℕ) (condition : CondTree) (r : WrittenRule) : Type 0 where
+  pub rule : Rewrite L CondTree
+  pub reads : ReadsRule form read g h name left right condition rule
+  pub kept : r ≡ kept_as form sparing rule
+
 -- it comes last
 pub record KeepsRule {L : Type 0} (form : L → Form) (read : List Element → Option Form) (s v : Space) (name left right : List ℕ) (condition : CondTree) : Type 0 where
-  pub rule : Rewrite L CondTree
-  pub reads : ReadsRule form read s.graph v.graph name left right condition rule
-  pub rest : v ≡ record s { graph = v.graph; rules = s.rules ++ rule_of form rule ∷ [] }
+  pub rule : WrittenRule
+  pub reads : ReadsKept form read s.sparing s.graph v.graph name left right condition rule
+  pub rest : v ≡ record s { graph = v.graph; rules = s.rules ++ rule ∷ [] }
 
 -- a text was refused, or a rule of both, or there was no memory to keep it
 pub data RuleRefused {L : Type 0} (form : L → Form) (read : List Element → Option Form) (g h : Graph) (left right : List ℕ) (condition : CondTree) (e : Error) : Type 0 where

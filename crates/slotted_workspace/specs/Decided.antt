@@ -27,8 +27,6 @@ use Rattle.slotted_explain.specs.Printed.{IsProofText}
 use Rattle.slotted_rules.specs.Applying.{AreRefusedBy, NeverModified}
 use Rattle.slotted_rules.specs.Counting.{RefusesRule}
 use Rattle.slotted_rules.specs.RuleOrigins.{AreFromRules}
-use Rattle.slotted_rules.specs.TreeAnswers.{AnswersTree, TreeRefuses}
-use Rattle.slotted_rules.specs.declared.condition_tree.CondTree.{CondTree}
 use Rattle.slotted_rules.specs.declared.rewrite.Rewrite.{Rewrite}
 use Rattle.slotted_deciding.specs.Equality.{IsDecidedGraph}
 use Rattle.slotted_deciding.specs.Asking.{AreApart, IsProved}
@@ -42,6 +40,8 @@ use Rattle.slotted_workspace.specs.Asked.{FollowsIn, HadFailed}
 use Rattle.slotted_workspace.specs.declared.deciding.ExplainedText.{ExplainedText}
 use Rattle.slotted_workspace.specs.declared.extracting.LeastText.{LeastText}
 use Rattle.slotted_workspace.specs.declared.deciding.ExplainedText.TheVariants.{Proved, Undecided, Unequal}
+use Rattle.slotted_workspace.specs.declared.sparing.RuleCondition.{RuleCondition}
+use Rattle.slotted_workspace.specs.Sparing.{AnswersRule, RuleRefuses}
 
 abbrev pub NeverFollows : Image → Term → Term → Type 0
 NeverFollows g t u = (E : List (Term × Term)) → map nameless_pair E ≡ asserted_in g → ¬ Derives E t u
@@ -80,14 +80,14 @@ ProvesTerms written g h t u Undecided = GoesTo g h × AreApart h.image t u
 abbrev pub DecideRefused : Graph → Graph → Error → Type 0
 DecideRefused g h e = HadFailed g h e ⊎ ((g.failed ≡ false) × CanRefuse e)
 
-pub record RunsDecided {L : Type 0} (form : L → Form) (rules : List (Rewrite L CondTree)) (limits : DecidedLimits) (g h : Graph) (r : DecidedRun) : Type 0 where
+pub record RunsDecided {L : Type 0} (form : L → Form) (rules : List (Rewrite L (RuleCondition L))) (limits : DecidedLimits) (g h : Graph) (r : DecidedRun) : Type 0 where
   pub well : g.failed ≡ false
-  pub run : HasRunDecided form (λ c s _. AnswersTree c s) rules (NeverModified L) limits g h r
-  pub origins : AreFromRules form (λ c s _. AnswersTree c s) rules g h
+  pub run : HasRunDecided form (AnswersRule form) rules (NeverModified L) limits g h r
+  pub origins : AreFromRules form (AnswersRule form) rules g h
 
-abbrev pub DecidedRunRefused : {L : Type 0} → (L → Form) → List (Rewrite L CondTree) → Graph → Graph → Error → Type 0
+abbrev pub DecidedRunRefused : {L : Type 0} → (L → Form) → List (Rewrite L (RuleCondition L)) → Graph → Graph → Error → Type 0
 DecidedRunRefused form rules g h e =
-    HadFailed g h e ⊎ ((g.failed ≡ false) × (IsTrue h.failed ⊎ ExtendsTo g h) × (CanRefuse e ⊎ AreRefusedBy (RefusesRule form (λ c s _. TreeRefuses c s)) rules e))
+    HadFailed g h e ⊎ ((g.failed ≡ false) × (IsTrue h.failed ⊎ ExtendsTo g h) × (CanRefuse e ⊎ AreRefusedBy (RefusesRule form (λ c s _. RuleRefuses c s)) rules e))
 
 pub record ExtractsDecided {C : Type 0} (written : Term → List Element) (costs : CostFunction C) (g h : Graph) (t : Term) (x : LeastText C) : Type 0 where
   pub well : g.failed ≡ false

@@ -1,5 +1,6 @@
 pub mod PatternCode
 pub mod Spaces
+pub mod Sparing
 pub mod Keeping
 pub mod Asked
 pub mod Cheapest

@@ -4,14 +4,15 @@
 --     IsBothOf a b x                 the tree x asks a, and then b
 --     AsksAll t x cs u               the tree x asks all of the conditions, in order; their slots were named one after another, from the table t to u
 --     ReadsConditional ..            a rule of two texts and conditions; the slots of the conditions are named first
---     ReadsRules form read g h a rs  the rules that a text asks for: one, or else two, the second of which goes back and has `<` behind its name
+--     ReadsRules form read y g h a rs    what the rules are kept as that a text asks for, sparing or as they are: one, or else two, the second of which
+--                                    goes back and has `<` behind its name
 --     KeepsRules form read s v text  the rules of the text come last
 --     ConditionRefused g h e         a condition was refused
 --     ConditionalRefused ..          a condition was refused, or a rule with the conditions
 --     RulesRefused ..                so was one of the rules of a text, or there was no memory to keep them. None was kept
 --     ReadsText, TextRefused         the rules of a text, or why there are none
 --     RefusesText s v text e         the text was refused, and the graph alone may have changed
-use Rattle.std.specs.Prelude.{◌≡◌, ◌⊎◌, ℕ, List, [], ◌∷◌, ◌++◌, map, Box, Option, true, false, codes, string_bytes}
+use Rattle.std.specs.Prelude.{◌≡◌, ◌⊎◌, ℕ, List, [], ◌∷◌, ◌++◌, Bool, Box, Option, true, false, codes, string_bytes}
 use Rattle.std.specs.declared.alloc.Global.{Global}
 use Rattle.slotted_slots.specs.declared.error.Error.{Error}
 use Rattle.slotted_slots.specs.declared.error.Error.TheVariants.{OutOfMemory}
@@ -27,7 +28,7 @@ use Rattle.slotted_rules.specs.declared.condition_tree.CondTree.{CondTree}
 use Rattle.slotted_rules.specs.declared.condition_tree.CondTree.TheVariants as tree
 use Rattle.slotted_rules.specs.declared.rewrite.Rewrite.{Rewrite}
 use Rattle.slotted_workspace.specs.Asked.{ChangesGraph, HadFailed, ReadsRule, RuleRefused}
-use Rattle.slotted_workspace.specs.Spaces.{Space, rule_of}
+use Rattle.slotted_workspace.specs.Spaces.{Space, WrittenRule, kept_as}
 use Rattle.slotted_workspace.specs.declared.error.WorkspaceError.{WorkspaceError}
 use Rattle.slotted_workspace.specs.declared.error.WorkspaceError.TheVariants.{UnknownHandle, RuleText}
 use Rattle.slotted_workspace.specs.declared.error.WorkspaceError.TheVariants as refused
@@ -73,10 +74,10 @@ pub data ConditionalRefused {L : Type 0} (form : L → Form) (read : List Elemen
 abbrev pub name_back : List ℕ → List ℕ
 name_back name = name ++ codes "<"
 
-pub data ReadsRules {L : Type 0} (form : L → Form) (read : List Element → Option Form) (g h : Graph) (a : Rule) (rules : List (Rewrite L CondTree)) : Type 0 where
-  one_way : (r : Rewrite L CondTree) → a.both ≡ false → rules ≡ r ∷ [] → ReadsConditional form read g h a.name a.left a.right a.conditions r → ReadsRules form read g h a rules
-  both_ways : (r q : Rewrite L CondTree) (between : Graph) → a.both ≡ true → rules ≡ r ∷ q ∷ [] → ReadsConditional form read g between a.name a.left a.right a.conditions r →
-      ReadsConditional form read between h (name_back a.name) a.right a.left a.conditions q → ReadsRules form read g h a rules
+pub data ReadsRules {L : Type 0} (form : L → Form) (read : List Element → Option Form) (sparing : Bool) (g h : Graph) (a : Rule) (rules : List WrittenRule) : Type 0 where
+  one_way : (r : Rewrite L CondTree) → a.both ≡ false → rules ≡ kept_as form sparing r ∷ [] → ReadsConditional form read g h a.name a.left a.right a.conditions r → ReadsRules form read sparing g h a rules
+  both_ways : (r q : Rewrite L CondTree) (between : Graph) → a.both ≡ true → rules ≡ kept_as form sparing r ∷ kept_as form sparing q ∷ [] → ReadsConditional form read g between a.name a.left a.right a.conditions r →
+      ReadsConditional form read between h (name_back a.name) a.right a.left a.conditions q → ReadsRules form read sparing g h a rules
 
 pub data RulesRefused {L : Type 0} (form : L → Form) (read : List Element → Option Form) (g h : Graph) (a : Rule) (e : Error) : Type 0 where
   first_refused : ConditionalRefused form read g h a.left a.right a.conditions e → RulesRefused form read g h a e
@@ -84,10 +85,10 @@ pub data RulesRefused {L : Type 0} (form : L → Form) (read : List Element → 
       ConditionalRefused form read between h a.right a.left a.conditions e → RulesRefused form read g h a e
   no_memory : OnlyReads g h → e ≡ OutOfMemory → RulesRefused form read g h a e
 
-pub record ReadsText {L : Type 0} (form : L → Form) (read : List Element → Option Form) (g h : Graph) (text : List ℕ) (rules : List (Rewrite L CondTree)) : Type 0 where
+pub record ReadsText {L : Type 0} (form : L → Form) (read : List Element → Option Form) (sparing : Bool) (g h : Graph) (text : List ℕ) (rules : List WrittenRule) : Type 0 where
   pub asked : Rule
   pub is_asked : rule_asked text ≡ asks asked
-  pub reads : ReadsRules form read g h asked rules
+  pub reads : ReadsRules form read sparing g h asked rules
 
 abbrev pub TextRefused : {L : Type 0} → (L → Form) → (List Element → Option Form) → Graph → Graph → List ℕ → WorkspaceError → Type 0
 TextRefused form read g h text UnknownHandle = ⊥
@@ -95,9 +96,9 @@ TextRefused form read g h text (RuleText e) = IsRefused (rule_asked text) e × (
 TextRefused form read g h text (refused.Graph e) = (a : Rule) × (rule_asked text ≡ asks a) × RulesRefused form read g h a e
 
 pub record KeepsRules {L : Type 0} (form : L → Form) (read : List Element → Option Form) (s v : Space) (text : List ℕ) : Type 0 where
-  pub rules : List (Rewrite L CondTree)
-  pub reads : ReadsText form read s.graph v.graph text rules
-  pub rest : v ≡ record s { graph = v.graph; rules = s.rules ++ map (rule_of form) rules }
+  pub rules : List WrittenRule
+  pub reads : ReadsText form read s.sparing s.graph v.graph text rules
+  pub rest : v ≡ record s { graph = v.graph; rules = s.rules ++ rules }
 
 abbrev pub RefusesText : {L : Type 0} → (L → Form) → (List Element → Option Form) → Space → Space → List ℕ → WorkspaceError → Type 0
 RefusesText form read s v text e = TextRefused form read s.graph v.graph text e × ChangesGraph s v

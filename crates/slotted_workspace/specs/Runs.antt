@@ -17,8 +17,6 @@ use Rattle.slotted_graph.specs.Extension.{ExtendsTo}
 use Rattle.slotted_model_rules.specs.Conditions.{Values}
 use Rattle.slotted_rules.specs.Applying.{AreRefusedBy, NeverModified, RefusesRules}
 use Rattle.slotted_rules.specs.Counting.{AppliesRule, BreaksRule, RefusesRule, SearchesRule}
-use Rattle.slotted_rules.specs.TreeAnswers.{AnswersTree, TreeRefuses}
-use Rattle.slotted_rules.specs.declared.condition_tree.CondTree.{CondTree}
 use Rattle.slotted_rules.specs.declared.rewrite.Rewrite.{Rewrite}
 use Rattle.slotted_rules.specs.Eqsat.{HasEqsatReported, HasRefusedEqsat}
 use Rattle.slotted_rules.specs.Turning.{Calls, RefusesTurn, RulesOnce}
@@ -27,6 +25,8 @@ use Rattle.slotted_workspace.specs.Asked.{HadFailed}
 use Rattle.slotted_workspace.specs.Spaces.{Space, rule_of}
 use Rattle.slotted_workspace.specs.declared.running.NoClock.{NoClock}
 use Rattle.slotted_workspace.specs.declared.running.NodeLimit.{NodeLimit}
+use Rattle.slotted_workspace.specs.declared.sparing.RuleCondition.{RuleCondition}
+use Rattle.slotted_workspace.specs.Sparing.{AnswersRule, RuleRefuses}
 
 abbrev pub TellsZero : NoClock → ℕ → NoClock → Type 0
 TellsZero k time l = (time ≡ 0) × (l ≡ k)
@@ -35,11 +35,11 @@ abbrev pub StopsPast : ℕ → Graph → Graph → Option (String Global) → Ty
 StopsPast n g h None = (h ≡ g) × (length g.filed ≤ n)
 StopsPast n g h (Some text) = (h ≡ g) × (n < length g.filed) × (string_bytes text ≡ codes "NodeLimit")
 
-abbrev pub searches_by : {L : Type 0} → (L → Form) → Rewrite L CondTree → Graph → List Values → Graph → Type 0
+abbrev pub searches_by : {L : Type 0} → (L → Form) → Rewrite L (RuleCondition L) → Graph → List Values → Graph → Type 0
 searches_by form = SearchesRule form
 
-abbrev pub applies_by : {L : Type 0} → (L → Form) → Rewrite L CondTree → List Values → Graph → Graph → Type 0
-applies_by form = AppliesRule form (λ c s _. AnswersTree c s)
+abbrev pub applies_by : {L : Type 0} → (L → Form) → Rewrite L (RuleCondition L) → List Values → Graph → Graph → Type 0
+applies_by form = AppliesRule form (AnswersRule form)
 
 abbrev pub leaves_by : NodeLimit → Graph → ℕ → NodeLimit → Graph → Option (String Global) → Type 0
 leaves_by h g n i k stop = StopsPast h.nodes g k stop × (i ≡ h)
@@ -49,12 +49,12 @@ abbrev pub endless : ℕ
 endless = 2 ^ 64 - 1
 
 -- why a turn is refused: nothing is kept of turns, and the hook is refused for want of memory alone
-abbrev pub refuses_by : {L : Type 0} → (L → Form) → List (Rewrite L CondTree) → Graph × NodeLimit → ℕ → Graph × NodeLimit → Error → Type 0
-refuses_by {L} form rules = RefusesTurn (RefusesRules (searches_by form) (λ _ _ _ _. ⊥) (applies_by form) (BreaksRule form (λ c s _. AnswersTree c s) (λ c s _. TreeRefuses c s)) rules)
+abbrev pub refuses_by : {L : Type 0} → (L → Form) → List (Rewrite L (RuleCondition L)) → Graph × NodeLimit → ℕ → Graph × NodeLimit → Error → Type 0
+refuses_by {L} form rules = RefusesTurn (RefusesRules (searches_by form) (λ _ _ _ _. ⊥) (applies_by form) (BreaksRule form (AnswersRule form) (λ c s _. RuleRefuses c s)) rules)
     (RulesOnce (searches_by form) (applies_by form) (NeverModified L) rules) (λ _ _ _ _ _ _. ⊥) (Calls leaves_by) (λ _. ⊥)
 
 -- a turn that stops the run is not counted
-pub record HasRun {L : Type 0} (form : L → Form) (rules : List (Rewrite L CondTree)) (turns nodes : ℕ) (g h : Graph) (r : Report (String Global)) : Type 0 where
+pub record HasRun {L : Type 0} (form : L → Form) (rules : List (Rewrite L (RuleCondition L))) (turns nodes : ℕ) (g h : Graph) (r : Report (String Global)) : Type 0 where
   pub well : g.failed ≡ false
   pub sound : h.failed ≡ false
   pub extends : ExtendsTo g h
@@ -65,11 +65,11 @@ pub record HasRun {L : Type 0} (form : L → Form) (rules : List (Rewrite L Cond
   pub later : NoClock
   pub reported : HasEqsatReported TellsZero (RulesOnce (searches_by form) (applies_by form) (NeverModified L) rules) (Calls leaves_by) turns endless (g, hook) clock (h, last) later r
 
-pub record IsRefusedRun {L : Type 0} (form : L → Form) (rules : List (Rewrite L CondTree)) (turns nodes : ℕ) (g h : Graph) (e : Error) : Type 0 where
+pub record IsRefusedRun {L : Type 0} (form : L → Form) (rules : List (Rewrite L (RuleCondition L))) (turns nodes : ℕ) (g h : Graph) (e : Error) : Type 0 where
   pub well : g.failed ≡ false
   pub extends : IsTrue h.failed ⊎ ExtendsTo g h
   pub fails : IsTrue h.failed ↔ IsShortage e
-  pub cause : IsShortage e ⊎ AreRefusedBy (RefusesRule form (λ c s _. TreeRefuses c s)) rules e
+  pub cause : IsShortage e ⊎ AreRefusedBy (RefusesRule form (λ c s _. RuleRefuses c s)) rules e
   pub hook : NodeLimit
   pub limit : hook.nodes ≡ nodes
   pub last : NodeLimit
@@ -77,13 +77,13 @@ pub record IsRefusedRun {L : Type 0} (form : L → Form) (rules : List (Rewrite 
   pub later : NoClock
   pub refused : HasRefusedEqsat TellsZero (RulesOnce (searches_by form) (applies_by form) (NeverModified L) rules) (Calls leaves_by) turns endless (refuses_by form rules) (g, hook) clock (h, last) later e
 
-abbrev pub RunRefused : {L : Type 0} → (L → Form) → List (Rewrite L CondTree) → ℕ → ℕ → Graph → Graph → Error → Type 0
+abbrev pub RunRefused : {L : Type 0} → (L → Form) → List (Rewrite L (RuleCondition L)) → ℕ → ℕ → Graph → Graph → Error → Type 0
 RunRefused form rules turns nodes g h e = HadFailed g h e ⊎ IsRefusedRun form rules turns nodes g h e
 
-abbrev pub RunAnswers : {L : Type 0} → (L → Form) → List (Rewrite L CondTree) → ℕ → ℕ → Graph → Graph → Result (Report (String Global)) Error → Type 0
+abbrev pub RunAnswers : {L : Type 0} → (L → Form) → List (Rewrite L (RuleCondition L)) → ℕ → ℕ → Graph → Graph → Result (Report (String Global)) Error → Type 0
 RunAnswers form rules turns nodes g h (Ok r) = HasRun form rules turns nodes g h r
 RunAnswers form rules turns nodes g h (Err e) = RunRefused form rules turns nodes g h e
 
 -- of some rules that are those of the workspace
-abbrev pub OfRules : {L : Type 0} → (L → Form) → Space → (List (Rewrite L CondTree) → Type 0) → Type 0
-OfRules {L} form s P = (rules : List (Rewrite L CondTree)) × (map (rule_of form) rules ≡ s.rules) × P rules
+abbrev pub OfRules : {L : Type 0} → (L → Form) → Space → (List (Rewrite L (RuleCondition L)) → Type 0) → Type 0
+OfRules {L} form s P = (rules : List (Rewrite L (RuleCondition L))) × (map (rule_of form) rules ≡ s.rules) × P rules

@@ -6,11 +6,12 @@ ghost use Rattle.slotted_workspace.specs.Decided.{DecideRefused, DecidedRunRefus
 ghost use Rattle.slotted_workspace.specs.Keeping.{IsKept};
 
 use crate::kept::Kept;
+use crate::sparing::RuleCondition;
 use slotted_decided::{DecidedLimits, DecidedRun, run_decided};
 use slotted_deciding::{Explained, Verdict, decide, decided_eq, decided_explain};
 use slotted_explain::{EGraph, Explanation};
 use slotted_languages::Language;
-use slotted_rules::{CondTree, Rewrite};
+use slotted_rules::Rewrite;
 use slotted_slots::Error;
 use slotted_terms::expr::printing::Printable;
 use std::alloc::Global;
@@ -84,7 +85,7 @@ pub(crate) fn proved<L: Printable>(
 pub(crate) fn run_rules_decided<L: Language>(
     alloc: Global,
     graph: &mut EGraph<L>,
-    rules: &[Rewrite<L, CondTree>],
+    rules: &[Rewrite<L, RuleCondition<L>>],
     limits: DecidedLimits,
 ) -> Result<DecidedRun, Error>
     requires { IsTrue graph.old.failed ⊎ All (CanBeSearched L.form graph.old.table) rules.now }

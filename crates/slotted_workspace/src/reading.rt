@@ -5,9 +5,11 @@ ghost use Rattle.slotted_graph.specs.Extension.{ExtendsTo};
 ghost use Rattle.slotted_proofs.specs.Equations.{to_applied};
 ghost use Rattle.slotted_rules.specs.Written.{CanBeSearched};
 ghost use Rattle.slotted_terms.specs.Valid.{IsValidTerm};
-ghost use Rattle.slotted_workspace.specs.Asked.{AddsKept, AddRefused, PatternRefused, ReadsPattern, ReadsRule, RuleRefused};
+ghost use Rattle.slotted_workspace.specs.Asked.{AddsKept, AddRefused, PatternRefused, ReadsKept, ReadsPattern, ReadsRule, RuleRefused};
+ghost use Rattle.slotted_workspace.specs.Spaces.{rule_of};
 
 use crate::kept::Kept;
+use crate::sparing::{RuleCondition, kept_rule};
 use slotted_explain::EGraph;
 use slotted_languages::Language;
 use slotted_patterns::Pattern;
@@ -60,4 +62,25 @@ pub(crate) fn read_rule<L: Language>(
     let searched = graph.parse_pattern(left)?;
     let made = graph.parse_pattern(right)?;
     Rewrite::from_patterns(alloc, name, searched, made, condition)
+}
+
+/// Returns the rule of two texts as a workspace keeps it, which is sparing if that is asked for.
+pub(crate) fn read_kept<L: Language>(
+    alloc: Global,
+    graph: &mut EGraph<L>,
+    name: &str,
+    left: &str,
+    right: &str,
+    condition: CondTree,
+    is_sparing: bool,
+) -> Result<Rewrite<L, RuleCondition<L>>, Error>
+    ensures ok { IfOk result (λ r. ReadsKept L.form L.read is_sparing graph.old graph.new
+        name.now left.now right.now condition (rule_of L.form r)) }
+    ensures searched { IfOk result (CanBeSearched L.form graph.new.table) }
+    ensures err { IfErr result (RuleRefused L.form L.read graph.old graph.new left.now right.now condition) }
+    ensures extends { IsTrue graph.new.failed ⊎ ExtendsTo graph.old graph.new }
+    ensures stays { IsTrue graph.old.failed → graph.new ≡ graph.old }
+{
+    let rule = read_rule(alloc, graph, name, left, right, condition)?;
+    kept_rule(alloc, rule, is_sparing)
 }

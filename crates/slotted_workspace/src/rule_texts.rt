@@ -7,9 +7,11 @@ ghost use Rattle.slotted_rule_texts.specs.Told.{told_condition, told_rule};
 ghost use Rattle.slotted_rules.specs.Written.{CanBeSearched};
 ghost use Rattle.slotted_workspace.specs.RuleTexts.{AsksAll, ConditionalRefused, ConditionRefused, IsBothOf, ReadsCondition};
 ghost use Rattle.slotted_workspace.specs.RuleTexts.{ReadsConditional, ReadsRules, ReadsText, RulesRefused, TextRefused, name_back};
+ghost use Rattle.slotted_workspace.specs.Spaces.{rule_of};
 
 use crate::error::WorkspaceError;
 use crate::reading::read_rule;
+use crate::sparing::{RuleCondition, kept_rule};
 use slotted_explain::EGraph;
 use slotted_languages::Language;
 use slotted_rule_texts::{RuleText, SlotCondition};
@@ -113,13 +115,15 @@ fn read_back<L: Language>(
     )
 }
 
-// Returns the rules that a rule's text asks for.
+// Returns the rules that a rule's text asks for, as a workspace keeps them.
 fn read_rules<L: Language>(
     alloc: Global,
     graph: &mut EGraph<L>,
     asked: &RuleText,
-) -> Result<Vec<Rewrite<L, CondTree>>, Error>
-    ensures ok { IfOk result (λ v. ReadsRules L.form L.read graph.old graph.new (told_rule asked.now) v.items) }
+    is_sparing: bool,
+) -> Result<Vec<Rewrite<L, RuleCondition<L>>>, Error>
+    ensures ok { IfOk result (λ v. ReadsRules L.form L.read is_sparing graph.old graph.new
+        (told_rule asked.now) (map (rule_of L.form) v.items)) }
     ensures searched { IfOk result (λ v. All (CanBeSearched L.form graph.new.table) v.items) }
     ensures err { IfErr result (RulesRefused L.form L.read graph.old graph.new (told_rule asked.now)) }
     ensures extends { IsTrue graph.new.failed ⊎ ExtendsTo graph.old graph.new }
@@ -134,28 +138,31 @@ fn read_rules<L: Language>(
         &asked.conditions,
     )?;
     let mut rules = Vec::new(alloc);
-    rules.push(first)?;
+    rules.push(kept_rule(alloc, first, is_sparing)?)?;
     if !asked.both {
         return Ok(rules);
     }
-    rules.push(read_back(alloc, graph, asked)?)?;
+    let back = read_back(alloc, graph, asked)?;
+    rules.push(kept_rule(alloc, back, is_sparing)?)?;
     Ok(rules)
 }
 
-/// Returns the rules that a text asks for: one, or two if it goes both ways.
+/// Returns the rules that a text asks for, as a workspace keeps them: one, or two if it goes both ways.
 pub(crate) fn rules_of_text<L: Language>(
     alloc: Global,
     graph: &mut EGraph<L>,
     text: &str,
-) -> Result<Vec<Rewrite<L, CondTree>>, WorkspaceError>
-    ensures ok { IfOk result (λ v. ReadsText L.form L.read graph.old graph.new text.now v.items) }
+    is_sparing: bool,
+) -> Result<Vec<Rewrite<L, RuleCondition<L>>>, WorkspaceError>
+    ensures ok { IfOk result (λ v. ReadsText L.form L.read is_sparing graph.old graph.new
+        text.now (map (rule_of L.form) v.items)) }
     ensures searched { IfOk result (λ v. All (CanBeSearched L.form graph.new.table) v.items) }
     ensures err { IfErr result (TextRefused L.form L.read graph.old graph.new text.now) }
     ensures extends { IsTrue graph.new.failed ⊎ ExtendsTo graph.old graph.new }
     ensures stays { IsTrue graph.old.failed → graph.new ≡ graph.old }
 {
     match RuleText::read(alloc, text) {
-        Ok(asked) => Ok(read_rules(alloc, graph, &asked)?),
+        Ok(asked) => Ok(read_rules(alloc, graph, &asked, is_sparing)?),
         Err(error) => Err(WorkspaceError::RuleText(error)),
     }
 }

@@ -5,10 +5,11 @@ ghost use Rattle.slotted_rules.specs.Written.{CanBeSearched};
 ghost use Rattle.slotted_workspace.specs.Runs.{RunAnswers};
 ghost use Rattle.slotted_workspace.specs.Saturating as saturating;
 
+use crate::sparing::RuleCondition;
 use slotted_analyses::Analysis;
 use slotted_explain::EGraph;
 use slotted_languages::Language;
-use slotted_rules::{Clock, CondTree, Hook, HookStop, Report, Rewrite, StopReason, run_eqsat};
+use slotted_rules::{Clock, Hook, HookStop, Report, Rewrite, StopReason, run_eqsat};
 use slotted_slots::Error;
 use std::alloc::Global;
 
@@ -82,7 +83,7 @@ impl<L: Language, N: Analysis<L>> Hook<L, N, String> for NodeLimit {
 pub(crate) fn run_rules<L: Language>(
     alloc: Global,
     graph: &mut EGraph<L>,
-    rules: &[Rewrite<L, CondTree>],
+    rules: &[Rewrite<L, RuleCondition<L>>],
     limits: Limits,
 ) -> Result<Report, Error>
     requires { IsTrue graph.old.failed ⊎ All (CanBeSearched L.form graph.old.table) rules.now }

@@ -4,9 +4,10 @@ ghost use Rattle.slotted_graph.specs.Extension.{ExtendsTo};
 ghost use Rattle.slotted_rules.specs.Written.{CanBeSearched};
 ghost use Rattle.slotted_workspace.specs.Turns.{TakesTurn, TurnRefused};
 
+use crate::sparing::RuleCondition;
 use slotted_explain::EGraph;
 use slotted_languages::Language;
-use slotted_rules::{CondTree, Rewrite, TurnCounts, apply_counted};
+use slotted_rules::{Rewrite, TurnCounts, apply_counted};
 use slotted_slots::Error;
 use std::alloc::Global;
 
@@ -14,7 +15,7 @@ use std::alloc::Global;
 pub(crate) fn take_turn<L: Language>(
     alloc: Global,
     graph: &mut EGraph<L>,
-    rules: &[Rewrite<L, CondTree>],
+    rules: &[Rewrite<L, RuleCondition<L>>],
 ) -> Result<TurnCounts, Error>
     requires { IsTrue graph.old.failed ⊎ All (CanBeSearched L.form graph.old.table) rules.now }
     ensures ok { IfOk result (TakesTurn L.form rules.now graph.old graph.new) }

@@ -25,10 +25,11 @@ use crate::extracting::{Extracted, LeastText, cheapest, least_of_all};
 use crate::handle::Handle;
 use crate::kept::{Kept, both_at, kept_at};
 use crate::numbers::WorkspaceNumbers;
-use crate::reading::{read_pattern, read_rule, read_term};
+use crate::reading::{read_kept, read_pattern, read_term};
 use crate::rule_texts::rules_of_text;
 use crate::running::{Limits, is_saturated, run_rules};
 use crate::searching::count_found;
+use crate::sparing::RuleCondition;
 use crate::turning::take_turn;
 use crate::uniting::{unite, unite_because};
 use slotted_costs::{AstSize, CostFunction};
@@ -54,20 +55,20 @@ pub struct Workspace<L: Language> {
     number: u64,
     graph: EGraph<L>,
     kept: Vec<Kept<L>>,
-    rules: Vec<Rewrite<L, CondTree>>,
+    rules: Vec<Rewrite<L, RuleCondition<L>>>,
+    sparing: bool,
     alloc: Global,
 }
 
 impl<L: Language> Model for Workspace<L> {
-    ghost use Rattle.std.specs.Prelude.{map};
-    ghost use Rattle.slotted_workspace.specs.Spaces.{Space, space_code, rule_of};
-    ghost use Rattle.slotted_workspace.specs.Keeping.{IsSane, terms_of};
+    ghost use Rattle.slotted_workspace.specs.Spaces.{Space, space_code};
+    ghost use Rattle.slotted_workspace.specs.Keeping.{IsSane, space_of};
 
     ghost Value = { Space };
 
     ghost coded = { space_code };
 
-    ghost view = { λ w. record { number = w.number; graph = w.graph; terms = terms_of w.kept.items; rules = map (rule_of L.form) w.rules.items } };
+    ghost view = { λ w. space_of L.form w.number w.graph w.kept.items w.rules.items w.sparing };
 
     ghost invariant = { λ w. IsSane L.form w.graph w.kept.items w.rules.items };
 }
@@ -100,6 +101,7 @@ impl<L: Language> Workspace<L> {
             graph,
             kept: Vec::new(alloc),
             rules: Vec::new(alloc),
+            sparing: false,
             alloc,
         })
     }
@@ -225,6 +227,16 @@ impl<L: Language> Workspace<L> {
         Ok(unite_because(self.alloc, &mut self.graph, left, right, text)?)
     }
 
+    /// Sets whether the rules that are read from now on are sparing. Rules that are kept already stay as they are.
+    ///
+    /// A run passes over a match of a sparing rule if the instances of both sides are found equal as they stand. So it
+    /// makes fewer classes and takes less time, and its proofs have no step for such a match.
+    pub fn set_sparing(&mut self, sparing: bool)
+        ensures { self.new ≡ record self.old { sparing = sparing } }
+    {
+        self.sparing = sparing;
+    }
+
     /// Keeps a rule, by its name and the texts of both sides. A run makes the right side equal to the left side for
     /// each match of the left side.
     pub fn rule(&mut self, name: &str, left: &str, right: &str) -> Result<(), WorkspaceError>
@@ -249,7 +261,15 @@ impl<L: Language> Workspace<L> {
         ensures err { IfErr result (Refuses self.old self.new
             (RuleRefused L.form L.read self.old.graph self.new.graph left.now right.now condition)) }
     {
-        let rule = read_rule(self.alloc, &mut self.graph, name, left, right, condition)?;
+        let rule = read_kept(
+            self.alloc,
+            &mut self.graph,
+            name,
+            left,
+            right,
+            condition,
+            self.sparing,
+        )?;
         self.rules.push(rule)?;
         Ok(())
     }
@@ -263,7 +283,7 @@ impl<L: Language> Workspace<L> {
         ensures ok { OnOk result (KeepsRules L.form L.read self.old self.new text.now) }
         ensures err { IfErr result (RefusesText L.form L.read self.old self.new text.now) }
     {
-        let mut rules = rules_of_text(self.alloc, &mut self.graph, text)?;
+        let mut rules = rules_of_text(self.alloc, &mut self.graph, text, self.sparing)?;
         self.rules.append(&mut rules)?;
         Ok(())
     }

@@ -14,7 +14,7 @@ invariant_of-self g c =
 pub returns-in_err-kept-clause-err : goal.returns-in_err-kept-clause-err
 returns-in_err-kept-clause-err g c =
     let p = err_from_is_err_and c.from_residual.result c.from_residual.ensures.1 in
-    rw (p.1, p.2) (add-refused g.L.LanguageChildren.form c.self.inside.number c.self.inside.graph c.self.inside.kept.items c.self.inside.rules.items c.args.self.now c.self.view_is g.L.LanguageChildren.read c.read_term.new.graph c.args.text.now c.in_err-kept.field-0.0 c.in_err-kept.ensures.err)
+    rw (p.1, p.2) (add-refused g.L.LanguageChildren.form c.self.inside.number c.self.inside.graph c.self.inside.kept.items c.self.inside.rules.items c.self.inside.sparing c.args.self.now c.self.view_is g.L.LanguageChildren.read c.read_term.new.graph c.args.text.now c.in_err-kept.field-0.0 c.in_err-kept.ensures.err)
 
 pub invariant_of-self-in_err-push : goal.invariant_of-self-in_err-push
 invariant_of-self-in_err-push g c =
@@ -26,7 +26,7 @@ pub returns-in_err-push-clause-err : goal.returns-in_err-push-clause-err
 returns-in_err-push-clause-err g c =
     let k = c.in_ok-kept.kept in
     let p = err_from_is_err_and c.from_residual-in_err-push.result c.from_residual-in_err-push.ensures.1 in
-    rw (p.1, p.2) (add-not_kept g.L.LanguageChildren.form c.self.inside.number c.self.inside.graph c.self.inside.kept.items c.self.inside.rules.items c.args.self.now c.self.view_is g.L.LanguageChildren.read c.read_term.new.graph c.args.text.now k.term (to_applied k.id) c.push.new.self.items c.in_err-push.ensures.items c.in_ok-kept.ensures.ok)
+    rw (p.1, p.2) (add-not_kept g.L.LanguageChildren.form c.self.inside.number c.self.inside.graph c.self.inside.kept.items c.self.inside.rules.items c.self.inside.sparing c.args.self.now c.self.view_is g.L.LanguageChildren.read c.read_term.new.graph c.args.text.now k.term (to_applied k.id) c.push.new.self.items c.in_err-push.ensures.items c.in_ok-kept.ensures.ok)
 
 pub invariant_of-self-2 : goal.invariant_of-self-2
 invariant_of-self-2 g c =
@@ -37,4 +37,4 @@ invariant_of-self-2 g c =
 pub returns-clause-ok : goal.returns-clause-ok
 returns-clause-ok g c =
     let k = c.in_ok-kept.kept in
-    add-answered g.L.LanguageChildren.form c.self.inside.number c.self.inside.graph c.self.inside.kept.items c.self.inside.rules.items c.args.self.now c.self.view_is g.L.LanguageChildren.read c.read_term.new.graph c.args.text.now k (to_applied k.id) c.push.new.self.items c.len-index.result c.in_ok-push.ensures.items (c.len-index.ensures ∙ c.self.inside.kept.ok.0) c.in_ok-kept.ensures.ok c.in_ok-kept.ensures.valid
+    add-answered g.L.LanguageChildren.form c.self.inside.number c.self.inside.graph c.self.inside.kept.items c.self.inside.rules.items c.self.inside.sparing c.args.self.now c.self.view_is g.L.LanguageChildren.read c.read_term.new.graph c.args.text.now k (to_applied k.id) c.push.new.self.items c.len-index.result c.in_ok-push.ensures.items (c.len-index.ensures ∙ c.self.inside.kept.ok.0) c.in_ok-kept.ensures.ok c.in_ok-kept.ensures.valid

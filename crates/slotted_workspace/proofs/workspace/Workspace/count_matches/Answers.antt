@@ -13,7 +13,7 @@ pub returns-in_err-count_found-clause-err : goal.returns-in_err-count_found-clau
 returns-in_err-count_found-clause-err g c =
     let w = c.self.inside in
     let p = err_from_is_err_and c.from_residual.result c.from_residual.ensures.1 in
-    rw (p.1, p.2) (call-refused g.L.LanguageChildren.form w.number w.graph w.kept.items w.rules.items c.args.self.now c.self.view_is (λ x. SearchRefused g.L.LanguageChildren.form g.L.LanguageChildren.read x c.count_found.new.graph c.args.text.now) c.count_found.new.graph c.in_err-count_found.field-0.0 c.in_err-count_found.ensures.err)
+    rw (p.1, p.2) (call-refused g.L.LanguageChildren.form w.number w.graph w.kept.items w.rules.items w.sparing c.args.self.now c.self.view_is (λ x. SearchRefused g.L.LanguageChildren.form g.L.LanguageChildren.read x c.count_found.new.graph c.args.text.now) c.count_found.new.graph c.in_err-count_found.field-0.0 c.in_err-count_found.ensures.err)
 
 pub invariant_of-self-2 : goal.invariant_of-self-2
 invariant_of-self-2 g c =

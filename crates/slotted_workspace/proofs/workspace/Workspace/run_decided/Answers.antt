@@ -31,5 +31,5 @@ returns-in_err-run_rules_decided-clause-err g c =
     let h = c.run_rules_decided.new.graph in
     let view = c.self.view_is in
     let p = err_from_is_err_and c.from_residual.result c.from_residual.ensures.1 in
-    rw (p.1, p.2) (call-refused form w.number w.graph w.kept.items w.rules.items s view (λ x e. OfRules form s (λ rules. DecidedRunRefused form rules x h e)) h c.in_err-run_rules_decided.field-0.0
+    rw (p.1, p.2) (call-refused form w.number w.graph w.kept.items w.rules.items w.sparing s view (λ x e. OfRules form s (λ rules. DecidedRunRefused form rules x h e)) h c.in_err-run_rules_decided.field-0.0
     (c.deref.result.now, ap (map (rule_of form)) c.deref.ensures.value ∙ (λ i. (view i).rules), c.in_err-run_rules_decided.ensures.err))
