@@ -12,6 +12,8 @@ use slotted_messages::Message;
 use slotted_symbols::SymbolLang;
 use slotted_weights::OperatorWeights;
 use slotted_workspace::{Limits, Workspace, WorkspaceError};
+use std::alloc::Global;
+use std::mem::replace;
 
 // The limits of a run.
 const LIMITS: Limits = Limits {
@@ -64,6 +66,13 @@ fn answer_program(
     }
 }
 
+// Puts a new workspace in the place of a former one.
+fn begin_anew(alloc: Global, workspace: &mut Workspace<SymbolLang>) -> Result<(), WorkspaceError> {
+    let former = replace(workspace, Workspace::new(alloc)?);
+    let _ = former.into_table();
+    Ok(())
+}
+
 // Answers a program in a new workspace. An empty line and one that begins with `#` ask nothing.
 fn answer_line(
     rt: &HostRuntime,
@@ -75,7 +84,7 @@ fn answer_line(
     if line.is_empty() || line.starts_with('#') {
         return Ok(());
     }
-    *workspace = Workspace::new(rt.alloc())?;
+    begin_anew(rt.alloc(), workspace)?;
     answer_program(rt, workspace, weights, line)
 }
 
@@ -94,5 +103,7 @@ fn answer_lines(
 fn main(rt: HostRuntime) -> Result<()> {
     let weights = walk_weights(rt.alloc())?;
     let mut workspace: Workspace<SymbolLang> = Workspace::new(rt.alloc())?;
-    answer_lines(&rt, &mut workspace, &weights)
+    let answered = answer_lines(&rt, &mut workspace, &weights);
+    let _ = workspace.into_table();
+    answered
 }

@@ -38,5 +38,7 @@ fn are_told_apart(workspace: &mut Workspace<Small>) -> Result<bool, WorkspaceErr
 /// Returns whether handles of a new workspace are told apart from others.
 pub fn are_checked(alloc: Global) -> Result<bool, WorkspaceError> {
     let mut workspace: Workspace<Small> = Workspace::with_number(alloc, 7)?;
-    are_told_apart(&mut workspace)
+    let answer = are_told_apart(&mut workspace);
+    let _ = workspace.into_table();
+    answer
 }

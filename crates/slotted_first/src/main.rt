@@ -20,5 +20,7 @@ fn show(rt: &impl Print, workspace: &mut Workspace<SymbolLang>) -> Result<()> {
 
 fn main(rt: HostRuntime) -> Result<()> {
     let mut workspace: Workspace<SymbolLang> = Workspace::new(rt.alloc())?;
-    show(&rt, &mut workspace)
+    let shown = show(&rt, &mut workspace);
+    let _ = workspace.into_table();
+    shown
 }

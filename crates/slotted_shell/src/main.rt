@@ -68,7 +68,7 @@ fn answer_line(rt: &HostRuntime, shell: &mut Shell, word: &str, rest: &str) -> R
         "run" => run_rules(rt, shell, rest)?,
         "dot" if !rest.is_empty() => write_picture(rt, shell, rest)?,
         "reset" => {
-            *shell = Shell::new(rt.alloc())?;
+            shell.reset()?;
             println!(rt; "ok")?;
         }
         _ => {
@@ -187,8 +187,11 @@ fn answer_all(rt: &HostRuntime, shell: &mut Shell) -> Result<()> {
 // Returns whether each check was answered `ok`.
 fn session(rt: &HostRuntime) -> Result<bool> {
     let mut shell = Shell::new(rt.alloc())?;
-    answer_all(rt, &mut shell)?;
-    Ok(shell.failed_checks == 0)
+    let answered = answer_all(rt, &mut shell);
+    let holds = shell.failed_checks == 0;
+    shell.let_go();
+    answered?;
+    Ok(holds)
 }
 
 fn main(rt: HostRuntime) -> ExitCode {

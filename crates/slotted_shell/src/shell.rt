@@ -13,6 +13,7 @@ use slotted_terms::pattern_to_re;
 use slotted_weights::OperatorWeights;
 use slotted_workspace::{Handle, Workspace, WorkspaceError};
 use std::alloc::Global;
+use std::mem::replace;
 
 /// A rule as it was written, and what it did so far. A rule that goes both ways is two.
 #[derive(Drop)]
@@ -45,6 +46,18 @@ impl Shell {
             failed_checks: 0,
             alloc,
         })
+    }
+
+    /// Puts a new session in the place of this one.
+    pub fn reset(&mut self) -> Result<(), WorkspaceError> {
+        let former = replace(self, Shell::new(self.alloc)?);
+        former.let_go();
+        Ok(())
+    }
+
+    /// Drops the session.
+    pub fn let_go(self) {
+        let _ = self.workspace.into_table();
     }
 
     /// Declares an operator by an example. Returns what the example binds.

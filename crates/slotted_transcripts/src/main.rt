@@ -223,7 +223,11 @@ fn answer_over<L: Printable, R: BufRead, W: Write>(
     output: &mut W,
 ) -> io::Result<bool> {
     match EGraph::<L>::new(alloc, SlotTable::new(alloc), ()) {
-        Ok(mut other) => answer_beside(alloc, session, &mut other, input, output),
+        Ok(mut other) => {
+            let answered = answer_beside(alloc, session, &mut other, input, output);
+            let _ = other.into_table();
+            answered
+        }
         Err(_) => Err(io::Error::from(ErrorKind::OutOfMemory)),
     }
 }
@@ -235,7 +239,11 @@ fn answer_next<L: Printable, R: BufRead, W: Write>(
     output: &mut W,
 ) -> io::Result<bool> {
     match Session::<L>::new(alloc) {
-        Ok(mut session) => answer_over(alloc, &mut session, input, output),
+        Ok(mut session) => {
+            let answered = answer_over(alloc, &mut session, input, output);
+            let _ = session.into_table();
+            answered
+        }
         Err(_) => Err(io::Error::from(ErrorKind::OutOfMemory)),
     }
 }

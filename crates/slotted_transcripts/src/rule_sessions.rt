@@ -129,7 +129,11 @@ fn answer_next<R: BufRead, W: Write>(
     output: &mut W,
 ) -> io::Result<bool> {
     match EGraph::<Small>::new(alloc, SlotTable::new(alloc), ()) {
-        Ok(mut graph) => answer_lines(alloc, &mut graph, input, output),
+        Ok(mut graph) => {
+            let answered = answer_lines(alloc, &mut graph, input, output);
+            let _ = graph.into_table();
+            answered
+        }
         Err(_) => Err(io::Error::from(ErrorKind::OutOfMemory)),
     }
 }

@@ -9,7 +9,9 @@ use anyhow::Result;
 use lines::{Answer, carry_out};
 use question::Verdict;
 use slotted_small::Small;
-use slotted_workspace::Workspace;
+use slotted_workspace::{Workspace, WorkspaceError};
+use std::alloc::Global;
+use std::mem::replace;
 
 // Writes a yes, with the lines of its proof below.
 fn show_proof(rt: &impl Print, proof: &str) -> Result<()> {
@@ -46,10 +48,17 @@ fn answer_line(rt: &HostRuntime, workspace: &mut Workspace<Small>, line: &str) -
     Ok(())
 }
 
+// Puts a new workspace in the place of a former one.
+fn begin_anew(alloc: Global, workspace: &mut Workspace<Small>) -> Result<(), WorkspaceError> {
+    let former = replace(workspace, Workspace::new(alloc)?);
+    let _ = former.into_table();
+    Ok(())
+}
+
 // Answers a line, or repeats it if it asks nothing. A line `---` begins anew.
 fn answer_or_repeat(rt: &HostRuntime, workspace: &mut Workspace<Small>, line: &str) -> Result<()> {
     if line == "---" {
-        *workspace = Workspace::new(rt.alloc())?;
+        begin_anew(rt.alloc(), workspace)?;
     } else if !line.is_empty() && !line.starts_with('#') {
         return answer_line(rt, workspace, line);
     }
@@ -67,5 +76,7 @@ fn answer_lines(rt: &HostRuntime, workspace: &mut Workspace<Small>) -> Result<()
 
 fn main(rt: HostRuntime) -> Result<()> {
     let mut workspace: Workspace<Small> = Workspace::new(rt.alloc())?;
-    answer_lines(&rt, &mut workspace)
+    let answered = answer_lines(&rt, &mut workspace);
+    let _ = workspace.into_table();
+    answered
 }
