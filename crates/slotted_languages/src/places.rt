@@ -29,7 +29,7 @@ pub(crate) fn binds_nothing<L: Language>(node: &L) -> bool
     ensures small { IsTrue result → IsSmall (L.form node.now) }
     ensures none { IsTrue result → HasNoBinder (L.form node.now) }
 {
-    if node.slot_count() >= PLACES {
+    if PLACES <= node.slot_count() {
         return false;
     }
     for i in 0..node.slot_count() {

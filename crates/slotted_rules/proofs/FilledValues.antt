@@ -153,7 +153,7 @@ one-full g all left rest done key value split so_far is full = (
   done ++ (key, value) ∷ [],
   append_assoc done ((key, value) ∷ []) rest ∙ (ap (λ l. done ++ l) (sym is) ∙ split),
   subst (AreFullValues g) (sym (map-append (λ (x : String Global × AppliedId). (string_bytes x.0, to_applied x.1)) done ((key, value) ∷ [])))
-  (All-push (λ (x : List ℕ × Applied). IsFullId g x.1) (shown done) (string_bytes key, to_applied value) so_far full),
+      (All-push (λ (x : List ℕ × Applied). IsFullId g x.1) (shown done) (string_bytes key, to_applied value) so_far full),
 )
 
 pub takes-none : (g : Graph) → OnlyTakesSlots g g

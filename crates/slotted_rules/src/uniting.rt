@@ -102,10 +102,10 @@ fn fill_and_unite<L: Language, N: Analysis<L>>(
     let method = graph.subst_method();
     let left = build_stored(alloc, graph, method, a, &filled)?;
     let right = build_stored(alloc, graph, method, b, &filled)?;
-    let answer = graph.union_quietly(&left, &right, text);
+    let united = graph.union_quietly(&left, &right, text);
     // This call is there for its clauses: what holds of each graph that has not failed.
     let _ = graph.is_failed();
-    answer
+    united
 }
 
 // Unites both instances. Values are copied only if one of them omits a name.

@@ -16,7 +16,7 @@ returns-then-has_full_children-clause-ok g c =
     let u = c.add_syn.new.table in
     IfOk-weaker c.add_syn.result (λ a. Adds t u k c.args.nodes.now c.add_syn.new.store c.add_syn.new.nodes f (to_applied a)) (λ a. AddsFilled t u k c.args.nodes.now c.add_syn.new.store c.add_syn.new.nodes f (to_applied a))
     (λ a adds. whole-adds k f (g.met.L.LanguageChildren.fits c.args.node.now) t c.requires.children (c.has_full_children.ensures.0 c.if-has_full_children.true) c.requires.known u
-        (λ j d l. c.add_syn.ensures.more _ (c.requires.known j d l)) c.args.nodes.now c.add_syn.new.store c.add_syn.new.nodes (to_applied a) adds) c.add_syn.ensures.ok
+    (λ j d l. c.add_syn.ensures.more _ (c.requires.known j d l)) c.args.nodes.now c.add_syn.new.store c.add_syn.new.nodes (to_applied a) adds) c.add_syn.ensures.ok
 
 pub returns-then-has_full_children-clause-takes : goal.returns-then-has_full_children-clause-takes
 returns-then-has_full_children-clause-takes g c = takes-whole c.args.store.now (g.L.LanguageChildren.form c.args.node.now) c.args.table.now c.add_syn.new.table c.add_syn.ensures.takes
