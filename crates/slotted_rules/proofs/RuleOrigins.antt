@@ -1,5 +1,5 @@
 -- Where written rules were applied, each new explicit entry comes from one of them, or entered in the edits after them.
-use Rattle.std.proofs.Common.{◌≡◌, ◌∙◌, ◌<◌, ◌≤◌, ◌++◌, ◌∷◌, [], ℕ, List, length, map, ap, sym, subst, refl, inl, inr, arith}
+use Rattle.std.proofs.Common.{◌≡◌, ◌∙◌, ◌<◌, ◌≤◌, ◌++◌, ◌∷◌, ℕ, List, length, map, ap, sym, subst, refl, inl, inr, arith}
 use Rattle.std.specs.Prelude.{◌⊎◌, Bool, Contains, drop, slice_index_or, string_bytes}
 use Rattle.std.proofs.lemmas.Bool.{cases_lt}
 use Rattle.slotted_slots.specs.declared.error.Error.{Error}

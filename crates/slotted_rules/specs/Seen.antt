@@ -8,7 +8,7 @@
 --     new_parts graph clock     a new runner
 --     with_other_hook h p       the runner p with the hook h
 --     AddsRoot t p q            from p to q the term t is added, and its id is one root more
-use Rattle.std.specs.Prelude.{◌≡◌, ℕ, List, [], ◌∷◌, ◌++◌, map, Option, Some, None, false, option_map, IsSome}
+use Rattle.std.specs.Prelude.{◌≡◌, ℕ, List, [], ◌∷◌, ◌++◌, map, Option, Some, None, option_map, IsSome}
 use Rattle.slotted_slots.specs.Table.{KnowsMore}
 use Rattle.slotted_slots.specs.declared.types.AppliedId.{AppliedId}
 use Rattle.slotted_theory.specs.Term.{Term}

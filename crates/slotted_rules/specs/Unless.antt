@@ -19,12 +19,11 @@ use Rattle.slotted_lookup.specs.Filling.{node_over}
 use Rattle.slotted_graph.specs.Graph.{Graph}
 use Rattle.slotted_graph.specs.Image.{FoundAlike}
 use Rattle.slotted_graph.specs.LookUp.{look_up}
-use Rattle.slotted_graph.specs.ValidIds.{IsValidId, IsValidNode}
+use Rattle.slotted_graph.specs.ValidIds.{IsValidNode}
 use Rattle.slotted_rules.specs.Stacked.{ids_before, last_ids}
 use Rattle.slotted_rules.specs.Asking.{IsOneAnswer}
 use Rattle.slotted_rules.specs.declared.rewrite.Rewrite.{Rewrite}
 use Rattle.slotted_rules.specs.declared.unless.UnlessEqual.{UnlessEqual}
-use Rattle.slotted_slots.specs.declared.error.Error.{Error}
 use Rattle.slotted_slots.specs.declared.error.Error.TheVariants.{Failed}
 use Rattle.slotted_slots.specs.Error.{IsOutOfMemory}
 use Rattle.std.proofs.Common.{◌∙◌, sym, inl, inr}

@@ -1,5 +1,5 @@
 -- Once the graph has failed if memory or slots ran out.
-use Rattle.std.proofs.Common.{◌≡◌, ◌∙◌, false, sym}
+use Rattle.std.proofs.Common.{◌∙◌, sym}
 use Rattle.slotted_graph.specs.Extension.{ExtendsTo}
 use Rattle.slotted_rules.specs.Applying.{AreModified, AreRefusedBy}
 use Rattle.slotted_rules.specs.Counting.{RefusesRule}

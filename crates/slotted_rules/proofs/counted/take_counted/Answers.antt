@@ -1,5 +1,5 @@
 -- Each turn goes on from where the ones before it led.
-use Rattle.std.proofs.Common.{◌≡◌, ◌≤◌, ◌∷◌, [], List, false, length, length-append, Result, IfErr, ap, sym, subst, inl, inr, arith}
+use Rattle.std.proofs.Common.{◌≡◌, ◌∷◌, [], List, false, length, length-append, Result, IfErr, ap, subst, inl, inr, arith}
 use Rattle.std.specs.Prelude.{◌⊎◌, IsTrue}
 use Rattle.slotted_slots.specs.declared.error.Error.{Error}
 use Rattle.slotted_slots.specs.declared.error.Error.TheVariants.{Failed}
@@ -14,7 +14,7 @@ use Rattle.slotted_rules.proofs.AppliedRules.{not-failed, not-failed-so, ok-well
 use Rattle.slotted_rules.proofs.Lowering.{later-lowers}
 use Rattle.slotted_graph.proofs.Saying.{lowers-itself}
 use Rattle.slotted_rules.specs.Counted.{BreaksTurns}
-use Rattle.slotted_rules.proofs.CountedTurns.{at-limit, no-turns, turn-added, turn-broken, turn-last}
+use Rattle.slotted_rules.proofs.CountedTurns.{no-turns, turn-added, turn-broken, turn-last}
 use Rattle.slotted_rules.proofs.counted.take_counted.Goals as goal
 
 -- no turn was refused for a failed graph

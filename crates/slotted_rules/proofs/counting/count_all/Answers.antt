@@ -7,7 +7,6 @@ use Rattle.slotted_slots.specs.Error.{IsShortage}
 use Rattle.slotted_languages.proofs.HandedOn.{handed_err}
 use Rattle.slotted_model_rules.specs.Conditions.{Values}
 use Rattle.slotted_graph.proofs.Extending.{extends-then}
-use Rattle.slotted_operations.specs.Graph.{Graph}
 use Rattle.slotted_rules.specs.Applying.{AreRefusedBy, StopsApplying}
 use Rattle.slotted_rules.specs.Counting.{AppliesRule, BreaksRule, CanApplyRule, RefusesRule, UnitesRule}
 use Rattle.slotted_rules.specs.Written.{CanBeSearched}

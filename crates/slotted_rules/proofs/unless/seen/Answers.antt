@@ -1,5 +1,5 @@
 -- Each pattern is looked up over the ids of its parts.
-use Rattle.std.proofs.Common.{◌∙◌, ◌∷◌, ◌++◌, [], ap, subst, arith, length, map, refl}
+use Rattle.std.proofs.Common.{◌∙◌, ◌∷◌, [], ap, subst, arith, length, map, refl}
 use Rattle.std.specs.Prelude.{All, IfSome, None, Some, option_map}
 use Rattle.std.proofs.lemmas.List.{length-map, map-append}
 use Rattle.slotted_patterns.specs.Subpatterns.{parts}

@@ -5,7 +5,7 @@ use Rattle.std.proofs.lemmas.List.Elements.{Contains-get_or}
 use Rattle.std.specs.Prelude.{IfOk, None, Some, is_some, option_map, slice_index_or}
 use Rattle.slotted_nodes.specs.Form.{Form, children}
 use Rattle.slotted_patterns.specs.Subpatterns.{parts}
-use Rattle.slotted_patterns.specs.Tree.{PatternTree, enode, row_of}
+use Rattle.slotted_patterns.specs.Tree.{PatternTree}
 use Rattle.slotted_patterns.specs.View.{tree_of}
 use Rattle.slotted_patterns.proofs.Folds.{patterns_in-row}
 use Rattle.slotted_proofs.specs.Equations.{to_applied}
