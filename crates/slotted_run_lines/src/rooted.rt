@@ -73,16 +73,15 @@ fn write_run<C: Cond<Small, ()>>(
 fn write_over<C: Cond<Small, ()>>(
     alloc: Global,
     table: SlotTable,
-    rule: Rewrite<Small, C>,
+    rules: &[Rewrite<Small, C>; 1],
     terms: &[RecExpr<Small>; 2],
     text: &mut String,
 ) -> Result<(), Error> {
-    let rules = [rule];
     let graph = EGraph::new(alloc, table, ())?;
     let runner = runner_over(alloc, graph)?;
     let runner = rooted(runner, &terms[0])?;
     let mut runner = rooted(runner, &terms[1])?;
-    let written = write_run(&mut runner, &rules, text);
+    let written = write_run(&mut runner, rules, text);
     let_go(runner);
     written
 }
@@ -102,24 +101,24 @@ fn write_kind(
     let other = slot_free_in(alloc, x, "f")?;
     match kind {
         "if" => {
-            let rule = rw!(alloc, &mut table; "rule"; left => right, if free)?;
-            write_over(alloc, table, rule, terms, text)
+            let rules = [rw!(alloc, &mut table; "rule"; left => right, if free)?];
+            write_over(alloc, table, &rules, terms, text)
         }
         "unless" => {
-            let rule = rw!(alloc, &mut table; "rule"; left => right, if !free)?;
-            write_over(alloc, table, rule, terms, text)
+            let rules = [rw!(alloc, &mut table; "rule"; left => right, if !free)?];
+            write_over(alloc, table, &rules, terms, text)
         }
         "either" => {
-            let rule = rw!(alloc, &mut table; "rule"; left => right, if or(free, not(other)))?;
-            write_over(alloc, table, rule, terms, text)
+            let rules = [rw!(alloc, &mut table; "rule"; left => right, if or(free, not(other)))?];
+            write_over(alloc, table, &rules, terms, text)
         }
         "both" => {
-            let rule = rw!(alloc, &mut table; "rule"; left => right, if and(free, not(other)))?;
-            write_over(alloc, table, rule, terms, text)
+            let rules = [rw!(alloc, &mut table; "rule"; left => right, if and(free, not(other)))?];
+            write_over(alloc, table, &rules, terms, text)
         }
         _ => {
-            let rule = rw!(alloc, &mut table; "rule"; left => right)?;
-            write_over(alloc, table, rule, terms, text)
+            let rules = [rw!(alloc, &mut table; "rule"; left => right)?];
+            write_over(alloc, table, &rules, terms, text)
         }
     }
 }
