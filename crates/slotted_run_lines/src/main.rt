@@ -26,6 +26,7 @@ mod printing;
 mod rebuilds;
 mod refusing;
 mod reports;
+mod rooted;
 mod rules;
 mod runs;
 mod searched;

@@ -13,11 +13,15 @@
 //! - `resting N M R TERM: L => R` applies a rule N times. The rule rests for R turns once it has found more than M
 //!   matches. Each time, the line tells whether the graph changed, and whether the rule rests. Then comes the number of
 //!   e-nodes.
+//! - `rooted KIND T == U: L => R` tells whether two terms are equal after a run that both are roots of. The rule is one
+//!   of `rw!`: for `plain` without a condition, for `if` where `$x` stands free nowhere in `?f`, for `unless` where it
+//!   does, and for `either` and `both` where one or each of these holds.
 //! - `report T N C REASON` and `rule NAME: L => R` are printed.
 
 use crate::counts::write_counts;
 use crate::printing::write_printed;
 use crate::reports::write_reports;
+use crate::rooted::write_rooted;
 use slotted_slots::Error;
 use std::alloc::Global;
 use std::io;
@@ -27,6 +31,7 @@ fn write_answer(alloc: Global, line: &str, text: &mut String) -> Result<(), Erro
     let (word, words) = line.split_once(' ').unwrap_or((line, ""));
     match word {
         "counted" | "resting" => write_counts(alloc, word, words, text),
+        "rooted" => write_rooted(alloc, words, text),
         "report" | "rule" => write_printed(alloc, word, words, text),
         _ => write_reports(alloc, word, words, text),
     }
