@@ -1,17 +1,19 @@
 -- Classes that died go to what they find, one after another.
-use Rattle.std.proofs.Common.{◌≡◌, ◌≢◌, ◌<◌, ℕ, zero, suc, List, [], ◌∷◌, ◌++◌, length, sym, ◌∙◌, ap, refl, subst, inl, inr, arith}
+use Rattle.std.proofs.Common.{◌≡◌, ◌≢◌, ◌<◌, ℕ, zero, suc, List, [], ◌∷◌, ◌++◌, length, sym, ◌∙◌, ap, refl, subst, inl, inr, arith, Some}
 use Rattle.std.specs.Prelude.{◌⊎◌, Contains, set, slice_index_or}
 use Rattle.std.proofs.lemmas.Bool.{cases_eq}
 use Rattle.std.proofs.lemmas.List.{get_or-set_same, get_or-set_other, length-set}
 use Rattle.std.proofs.lemmas.List.Elements.{Contains-append_left}
-use Rattle.std.proofs.lemmas.Option.{get_or_from_slice_get, slice_get_within}
+use Rattle.std.proofs.lemmas.Option.{get_or_from_slice_get, slice_get_within, slice_get-get_or}
 use Rattle.slotted_theory.proofs.Lists.{Contains-nil}
 use Rattle.slotted_model.specs.Correspondence.{AllDifferent}
 use Rattle.slotted_model.specs.Find.{IsLive}
 use Rattle.slotted_model_analyses.specs.Analysis.{Analysis, IsMerge, Absorbs}
 use Rattle.slotted_model_analyses.proofs.Absorbing.{absorbs-same, absorbs-then, merge-absorbs, merge-keeps}
-use Rattle.slotted_classes.specs.Kept.{Kept, entries_of}
+use Rattle.slotted_classes.specs.Kept.{Kept, entries_of, nodes_of}
+use Rattle.slotted_classes.proofs.KeptLists.{length-nodes_of}
 use Rattle.slotted_hashcons.specs.FiledRows.{IsFiled, Rows}
+use Rattle.slotted_data.specs.Grounded.{Grounds, IsGrounded, at_first, by_find, by_merge, IsOldOr}
 use Rattle.slotted_data.specs.Held.{Held, users_of, with_user, with_users_taken}
 use Rattle.slotted_data.specs.Made.{data_in}
 use Rattle.slotted_data.specs.Users.{SameValues, WaitsFiled, found_in}
@@ -86,6 +88,7 @@ module _ {D : Type 0} (a : Analysis D) (law : IsMerge D a) (k : Kept) where
     counts = refl;
     rows = waits-same s;
     down = λ i x. absorbs-same a law (data_in x d.values i);
+    grounded = λ i x at. at_first i x (inl at);
     merged = λ i x there. absurd (Contains-nil i there);
     stale = λ i n x. refl;
     once = λ h. h;
@@ -102,7 +105,7 @@ module _ {D : Type 0} (a : Analysis D) (law : IsMerge D a) (k : Kept) where
       (live : IsLive (entries_of k) (found_in k c)) (dead : ¬ IsLive (entries_of k) c)
       (itself : (b : ℕ) → IsLive (entries_of k) b → b < length d.values → found_in k b ≡ b)
       (lives : (b : ℕ) → b < length d.values → IsLive (entries_of k) (found_in k b))
-      (within : (b o : ℕ) → Contains (users_of d b) o → b < length d.values) where
+      (within : (b o : ℕ) → Contains (users_of d b) o → b < length d.values) (all : length d.values ≡ length k.classes) where
     abbrev h : ℕ
     h = found_in k c
 
@@ -139,6 +142,40 @@ module _ {D : Type 0} (a : Analysis D) (law : IsMerge D a) (k : Kept) where
           (subst (λ y. Absorbs a y (data_in x e.values h)) (sym (new_heir x)) (subst (Absorbs a w) (sym (at_heir x)) (merge-keeps a law one.kept one.dead)))
       | inr n ↦ subst (λ y. Absorbs a y (data_in x e.values i)) (sym (others i n x)) (absorbs-same a law (data_in x e.values i))
     ]
+
+    counted : length one.held.values ≡ length e.values
+    counted = elim one.puts [
+      | inl p ↦ ap (λ (q : Held D). length q.values) p.2
+      | inr p ↦ ap length p.value.values ∙ length-set e.values h w
+    ]
+
+    abbrev From : ℕ → D → Type 0
+    From = IsGrounded a (nodes_of k) (found_in k) (IsOldOr [] d.values)
+
+    in_nodes : (i : ℕ) → i < length e.values → i < length (nodes_of k)
+    in_nodes i l = let n = length-nodes_of k in let z = m.count in omega (arith, l, n, z, all)
+
+    heir-grounded : From h w
+    heir-grounded =
+        let n = m.count in
+        let l = heir-in in
+        by_merge h one.kept one.dead (m.grounded h one.kept one.kept_is)
+        (by_find c h one.dead (in_nodes c (slice_get_within e.values c one.dead one.dead_is)) (in_nodes h heir-in) (sym (itself h live (omega (arith, l, n)))) (m.grounded c one.dead one.dead_is))
+
+    -- what was there comes from where it did, and so does what is merged
+    next-grounded : Grounds a (nodes_of k) (found_in k) (IsOldOr [] d.values) f.values
+    next-grounded i x at =
+        let is : data_in x f.values i ≡ x = get_or_from_slice_get f.values i x x at in
+        elim (cases_eq i h) [
+          | inl q ↦
+              let same : w ≡ x = sym (new_heir x) ∙ (ap (data_in x f.values) (sym q) ∙ is) in
+              subst (From i) same (subst (λ j. From j w) (sym q) heir-grounded)
+          | inr n ↦
+              let within_f = slice_get_within f.values i x at in
+              let moved = ap length one.moves.same.values in
+              let count = counted in
+              m.grounded i x (slice_get-get_or e.values i x (omega (arith, within_f, moved, count)) ∙ ap Some (sym (others i n x) ∙ is))
+        ]
 
     held_users : (b : ℕ) → users_of one.held b ≡ users_of e b
     held_users b = elim one.puts [
@@ -227,6 +264,7 @@ module _ {D : Type 0} (a : Analysis D) (law : IsMerge D a) (k : Kept) where
       ] ∙ m.counts);
       rows = waits-then s t u m.rows both_rows;
       down = λ i x. absorbs-then a law (data_in x f.values i) (data_in x e.values i) (data_in x d.values i) (lower i x) (m.down i x);
+      grounded = next-grounded;
       merged = λ i x there. elim (end-cases cs c i there) [
         | inl j ↦ absorbs-then a law (data_in x f.values (found_in k i)) (data_in x e.values (found_in k i)) (data_in x d.values i) (lower (found_in k i) x) (m.merged i x j)
         | inr q ↦ subst (λ j. Absorbs a (data_in x f.values (found_in k j)) (data_in x d.values j)) (sym q)
@@ -269,12 +307,6 @@ module _ {D : Type 0} (a : Analysis D) (law : IsMerge D a) (k : Kept) where
       ];
     }
       where
-        counted : length one.held.values ≡ length e.values
-        counted = elim one.puts [
-          | inl p ↦ ap (λ (q : Held D). length q.values) p.2
-          | inr p ↦ ap length p.value.values ∙ length-set e.values h w
-        ]
-
         changed-kept : (i : ℕ) → Contains e.changed i → Contains f.changed i
         changed-kept i y = subst (λ xs. Contains xs i) (sym one.moves.same.changed) (elim one.puts [
           | inl p ↦ subst (λ (q : Held D). Contains q.changed i) (sym p.2) y

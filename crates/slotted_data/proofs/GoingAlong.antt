@@ -1,6 +1,6 @@
 -- What was known of data when the older graph was at rest, and what has been done since, is what the model asks of data that is carried along.
 use Rattle.std.proofs.Common.{◌≡◌, ◌<◌, ◌≤◌, ℕ, List, [], ◌∷◌, ◌++◌, length, map, drop, take, ◌-◌, true, false, cond, Option, sym, ◌∙◌, ap, refl, subst, inl, inr, arith}
-use Rattle.std.specs.Prelude.{◌⊎◌, Contains}
+use Rattle.std.specs.Prelude.{◌⊎◌, Contains, slice_get}
 use Rattle.std.proofs.lemmas.Bool.{cases_eq, cases_lt, lt-ltb}
 use Rattle.std.proofs.lemmas.List.{length-drop, take-append-drop, take_all}
 use Rattle.std.proofs.lemmas.List.Elements.{Contains-append_cases, Contains-append_right}
@@ -32,12 +32,14 @@ use Rattle.slotted_hashcons.specs.WellFiled.{state_in}
 use Rattle.slotted_rebuilding.proofs.RebuildCounts.{counts-same}
 use Rattle.slotted_analyses.specs.Meaning.{Meaning, by_bare_nodes}
 use Rattle.slotted_analyses.proofs.Merging.{makes-alike}
+use Rattle.slotted_data.specs.Grounded.{Grounds, IsOldOr}
 use Rattle.slotted_data.specs.Held.{DataCounts, Held, users_of, with_carried}
 use Rattle.slotted_data.specs.Made.{data_in, children_at, source_class, AddsNew}
 use Rattle.slotted_data.specs.Users.{EntersUsers, found_in}
 use Rattle.slotted_data.specs.Lowering.{HasUsers, IsReady, TakesTurns, part_of, quiet, totals_in}
 use Rattle.slotted_data.specs.Burying.{Buries}
 use Rattle.slotted_data.specs.Carrying.{RestedBefore, Carried, CarriesUp}
+use Rattle.slotted_data.proofs.Grounding.{EachGrounded, each-grounds, grounded-later, grounds-each, new-grounded, run-grounded, stays-itself}
 use Rattle.slotted_data.proofs.NewData.{children-older, map-same}
 use Rattle.slotted_data.proofs.Noting.{carried-noted}
 use Rattle.slotted_data.proofs.Rising.{users-same}
@@ -186,6 +188,10 @@ module _ {D : Type 0} (meaning : Meaning D) (law : IsMerge D (by_bare_nodes mean
     out_of_older : (i : ℕ) → i < length k.classes → i < length (nodes_of k)
     out_of_older i h = let e = length-nodes_of k in omega (arith, h, e)
 
+    -- the data of each class comes from that of older ones
+    each-new : (x : D) → EachGrounded a (IsOldOr [] d.values) (nodes_of l) (found_in l) (data_in x e.values)
+    each-new x = new-grounded meaning l rest.sane.sound.linked rest.sane.sound.canonical [] d e new count x
+
     -- all data has height 0 still: so it absorbs everything
     module _ (short : e.tall ≡ false) where
       low-each : (x : D) (i : ℕ) → i < length l.classes → meaning.height (data_in x e.values i) ≡ 0
@@ -231,6 +237,7 @@ module _ {D : Type 0} (meaning : Meaning D) (law : IsMerge D (by_bare_nodes mean
           high = λ t. absurd cc;
         };
         down = λ x i h. absorbs-any x (found_in l i) (new_found i (later-class i (in_older i h))) (data_in x d.values (found_in k i));
+        grounded = each-grounds a (IsOldOr [] d.values) (nodes_of l) (found_in l) e.values (count ∙ sym (length-nodes_of l)) each-new;
         noted = λ x. record {
           kept = new.kept;
           noted = λ i h n. let u = unnoted x i (in_nodes i h) n in (out_of_older i u.0, u.1);
@@ -481,16 +488,30 @@ module _ {D : Type 0} (meaning : Meaning D) (law : IsMerge D (by_bare_nodes mean
         };
       }
 
+      abbrev S : ℕ → D → Type 0
+      S = IsOldOr [] d.values
+
+      -- what the dead had comes from there, too
+      each-buried : (x : D) → EachGrounded a S (nodes_of l) (found_in l) (data_in x d2.values)
+      each-buried x i h =
+          let before : Grounds a (nodes_of l) (found_in l) S e.values = each-grounds a S (nodes_of l) (found_in l) e.values (count ∙ sym (length-nodes_of l)) each-new in
+          grounded-later a (nodes_of l) (nodes_of l) (found_in l) (found_in l) (stays-itself (nodes_of l) (found_in l)) (IsOldOr [] d1.values) S (λ j y at. elim at [
+            | inl had ↦ before j y (ap (λ vs. slice_get vs j) (sym enters.same.values) ∙ had)
+            | inr none ↦ absurd (Contains-nil (j, y) none)
+          ]) (grounds-each a (IsOldOr [] d1.values) (nodes_of l) (found_in l) d2.values (ready-then.count ∙ sym (length-nodes_of l)) buries.grounded x i h)
+
       -- and values rose until nothing waits
       module _ (is_tall : e.tall ≡ true) (all : d1.entered ≡ length l.classes) (u : Rows) (f : Held D) (turns fall : ℕ) (rises : TakesTurns a l t u d2 f turns fall) (ended : u.waiting ≡ []) where
-        risen : (x : D) → CarriesTo a older (part_of x d []) newer (part_of x f [])
-        risen x =
+        run : (x : D) → RunsWithData a newer (part_of x d2 t.waiting) rises.taken newer (part_of x f [])
+        run x =
             let w : RunsWithData a (state_in l (quiet t)) (part_of x d2 t.waiting) rises.taken (state_in l (quiet t)) (part_of x f []) =
             subst (λ ws. RunsWithData a (state_in l (quiet t)) (part_of x d2 t.waiting) rises.taken (state_in l (quiet t)) (part_of x f ws)) ended (rises.runs x) in
-            let run : RunsWithData a newer (part_of x d2 t.waiting) rises.taken newer (part_of x f []) =
-            subst (λ z. RunsWithData a (state_in l (record { filed = z; waiting = [] })) (part_of x d2 t.waiting) rises.taken (state_in l (record { filed = z; waiting = [] })) (part_of x f [])) (buries.rows.same ∙ enters.rows.same) w in
+            subst (λ z. RunsWithData a (state_in l (record { filed = z; waiting = [] })) (part_of x d2 t.waiting) rises.taken (state_in l (record { filed = z; waiting = [] })) (part_of x f [])) (buries.rows.same ∙ enters.rows.same) w
+
+        risen : (x : D) → CarriesTo a older (part_of x d []) newer (part_of x f [])
+        risen x =
             let carried = carried-rests (λ _. Unit {0}) a law (makes-alike meaning) (λ _ _ _ _. tt) older (part_of x d []) (rests-before x) (λ _ _. tt) newer (part_of x d2 t.waiting) rest before.goes_on (λ _ _. tt) (along x) (all-noted x) in
-            (carried.1 rises.taken newer (part_of x f []) run refl).1
+            (carried.1 rises.taken newer (part_of x f []) (run x) refl).1
 
         entered-now : f.entered ≡ length l.classes
         entered-now = rises.same.entered ∙ (buries.entered ∙ all)
@@ -523,6 +544,7 @@ module _ {D : Type 0} (meaning : Meaning D) (law : IsMerge D (by_bare_nodes mean
             high = λ _. elim (new.high is_tall) [ inl old ↦ before.rested.high old | inr some ↦ some ];
           };
           down = λ x. (risen x).down;
+          grounded = each-grounds a S (nodes_of l) (found_in l) f.values (rises.same.count ∙ (ready-then.count ∙ sym (length-nodes_of l))) (λ x. run-grounded meaning law S newer rest (each-buried x) (run x));
           noted = λ x. (risen x).noted;
           counts = subst (λ (c : DataCounts). CountsGo d.counts.own c.own) (sym same-counts) (counts-same d.counts.own);
         }

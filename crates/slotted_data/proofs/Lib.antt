@@ -1,5 +1,6 @@
 pub mod NewData
 pub mod Entering
+pub mod Grounding
 pub mod TakenData
 pub mod Rising
 pub mod Buried

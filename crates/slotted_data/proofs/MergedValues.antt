@@ -1,8 +1,10 @@
 -- A value that is merged into the data of a class at rest, and what comes to rest again.
-use Rattle.std.proofs.Common.{◌≡◌, ◌<◌, ℕ, List, [], length, true, false, Option, sym, ◌∙◌, refl, subst, arith}
+use Rattle.std.proofs.Common.{◌≡◌, ◌<◌, ℕ, List, [], ◌∷◌, length, true, false, Option, sym, ◌∙◌, refl, subst, arith, inl, inr}
+use Rattle.std.proofs.lemmas.Option.{slice_get-get_or}
+use Rattle.slotted_theory.proofs.Lists.{contains_head}
 use Rattle.slotted_model.specs.Find.{IsLive}
 use Rattle.slotted_model.specs.State.{State}
-use Rattle.slotted_model.proofs.Finds.Finding.{Leads, leads, found-live, found-in_range}
+use Rattle.slotted_model.proofs.Finds.Finding.{Leads, leads, find_class-live, found-live, found-in_range}
 use Rattle.slotted_model_analyses.specs.Analysis.{Analysis, IsMerge}
 use Rattle.slotted_model_analyses.specs.DataPart.{HasData, Merges, absorbed, RestsWithData, RunsWithData, starts}
 use Rattle.slotted_model_analyses.specs.DataWrites.{MergesInto, merges_into}
@@ -15,11 +17,13 @@ use Rattle.slotted_rebuilding.specs.Counted.{CountsFit, CountsGo}
 use Rattle.slotted_hashcons.specs.WellFiled.{state_in}
 use Rattle.slotted_rebuilding.proofs.RebuildCounts.{counts-same}
 use Rattle.slotted_analyses.specs.Meaning.{Meaning, by_bare_nodes}
+use Rattle.slotted_data.specs.Grounded.{Grounds, IsGrounded, at_first, by_find, IsOldOr}
 use Rattle.slotted_data.specs.Held.{DataCounts, Held}
 use Rattle.slotted_data.specs.Made.{data_in}
 use Rattle.slotted_data.specs.Users.{found_in}
 use Rattle.slotted_data.specs.Lowering.{HasUsers, IsReady, Lowers, RisesTo, TakesTurns, part_of, quiet, totals_in}
 use Rattle.slotted_data.specs.Carrying.{DataRests, MergesIn}
+use Rattle.slotted_data.proofs.Grounding.{EachGrounded, each-grounds, merge-grounded, run-grounded}
 use Rattle.slotted_data.proofs.Noting.{merges-noted}
 use Rattle.slotted_data.proofs.Rising.{ready-same, same-then, users-same}
 use Rattle.slotted_data.proofs.TakenData.{zero-absorbs, puts-merges, puts-same}
@@ -47,8 +51,12 @@ module _ {D : Type 0} (meaning : Meaning D) (law : IsMerge D (by_bare_nodes mean
   rested : (x : D) → RestsWithData a g (part_of x d [])
   rested x = record { rest = rests.rest; has = rests.has x; nothing_waits = refl }
 
-  merged-in : (f : Held D) → f.counts ≡ d.counts → DataRests a k q f → ((x : D) → MergesInto a g (part_of x d []) i w g (part_of x f [])) → MergesIn a k q i w d f
-  merged-in f same after merges = record {
+  abbrev S : ℕ → D → Type 0
+  S = IsOldOr ((i, w) ∷ []) d.values
+
+  merged-in : (f : Held D) → f.counts ≡ d.counts → DataRests a k q f → ((x : D) → MergesInto a g (part_of x d []) i w g (part_of x f [])) → Grounds a (nodes_of k) (found_in k) S f.values → MergesIn a k q i w d f
+  merged-in f same after merges grounded = record {
+    grounded = grounded;
     counts = subst (λ (c : DataCounts). CountsGo d.counts.own c.own) (sym same) (counts-same d.counts.own);
     rests = after;
     merges = merges;
@@ -59,7 +67,7 @@ module _ {D : Type 0} (meaning : Meaning D) (law : IsMerge D (by_bare_nodes mean
   pub low-merges : d.tall ≡ false → MergesIn a k q i w d d
   low-merges short = merged-in d refl rests (λ x.
       let low : meaning.height (data_in x d.values (found_in k i)) ≡ 0 = (rests.low short).1 (found_in k i) found-within x in
-      merges_into (absorbed (zero-absorbs a law (data_in x d.values (found_in k i)) w low)) starts ((rests.rest.nothing_waits, rests.rest.aligned), refl))
+      merges_into (absorbed (zero-absorbs a law (data_in x d.values (found_in k i)) w low)) starts ((rests.rest.nothing_waits, rests.rest.aligned), refl)) (λ j x at. at_first j x (inl at))
 
   module _ (is_tall : d.tall ≡ true) where
     all_users : HasUsers k (length k.classes) d
@@ -91,17 +99,30 @@ module _ {D : Type 0} (meaning : Meaning D) (law : IsMerge D (by_bare_nodes mean
           subst (λ z. HasData a (state_in k (record { filed = z; waiting = [] })) (part_of x e t.waiting)) (sym same.1)
           (merge-has a law g (part_of x d []) (rests.has x) c (omega (arith, l, n)) w (part_of x e t.waiting) (first x))
 
+      risen-run : (u : Rows) (f : Held D) (turns fall : ℕ) (rises : TakesTurns a k t u e f turns fall) → u.waiting ≡ [] → (x : D) → RunsWithData a g (part_of x e t.waiting) rises.taken g (part_of x f [])
+      risen-run u f turns fall rises ended x =
+          let puts = puts-same k q rests.rest meaning d c (meaning.merge lowers.0 w) t e lowers.2 in
+          let r : RunsWithData a (state_in k (quiet t)) (part_of x e t.waiting) rises.taken (state_in k (quiet t)) (part_of x f []) =
+          subst (λ ws. RunsWithData a (state_in k (quiet t)) (part_of x e t.waiting) rises.taken (state_in k (quiet t)) (part_of x f ws)) ended (rises.runs x) in
+          subst (λ z. RunsWithData a (state_in k (record { filed = z; waiting = [] })) (part_of x e t.waiting) rises.taken (state_in k (record { filed = z; waiting = [] })) (part_of x f [])) puts.1 r
+
+      -- the value was given for the class that i finds
+      first-grounded : (x : D) → EachGrounded a S (nodes_of k) (found_in k) (data_in x e.values)
+      first-grounded x =
+          let n = length-nodes_of k in
+          let l = c_in in
+          let own : (j : ℕ) → j < length (nodes_of k) → IsGrounded a (nodes_of k) (found_in k) S j (data_in x d.values j) =
+          λ j h. let count = rests.count in at_first j (data_in x d.values j) (inl (slice_get-get_or d.values j x (omega (arith, h, n, count)))) in
+          let in_c : c < length (nodes_of k) = omega (arith, l, n) in
+          let same : found_in k i ≡ found_in k c = sym class ∙ sym (find_class-live (nodes_of k) (entries_of k) led c in_c live) in
+          merge-grounded a S own (by_find i c w in_nodes in_c same (at_first i w (inr (contains_head (i, w) [])))) (first x)
+
       risen-merges : (u : Rows) (f : Held D) (turns fall : ℕ) → TakesTurns a k t u e f turns fall → u.waiting ≡ [] → (f.tall ≡ true) × MergesIn a k q i w d f
       risen-merges u f turns fall rises ended =
           let puts = puts-same k q rests.rest meaning d c (meaning.merge lowers.0 w) t e lowers.2 in
           let same = same-then d e f puts.0 rises.same in
           let merges : (x : D) → MergesInto a g (part_of x d []) i w g (part_of x f []) =
-          λ x.
-          let r : RunsWithData a (state_in k (quiet t)) (part_of x e t.waiting) rises.taken (state_in k (quiet t)) (part_of x f []) =
-          subst (λ ws. RunsWithData a (state_in k (quiet t)) (part_of x e t.waiting) rises.taken (state_in k (quiet t)) (part_of x f ws)) ended (rises.runs x) in
-          let run : RunsWithData a g (part_of x e t.waiting) rises.taken g (part_of x f []) =
-          subst (λ z. RunsWithData a (state_in k (record { filed = z; waiting = [] })) (part_of x e t.waiting) rises.taken (state_in k (record { filed = z; waiting = [] })) (part_of x f [])) puts.1 r in
-          merges_into (subst (λ j. Merges a g (part_of x d []) j w (part_of x e t.waiting)) class (first x)) run ((rests.rest.nothing_waits, rests.rest.aligned), refl) in
+          λ x. merges_into (subst (λ j. Merges a g (part_of x d []) j w (part_of x e t.waiting)) class (first x)) (risen-run u f turns fall rises ended x) ((rests.rest.nothing_waits, rests.rest.aligned), refl) in
           let now : f.tall ≡ true = same.tall ∙ is_tall in (
             now,
             merged-in f same.counts (record {
@@ -116,7 +137,8 @@ module _ {D : Type 0} (meaning : Meaning D) (law : IsMerge D (by_bare_nodes mean
               counts = subst (λ (c : DataCounts). CountsFit c.own 0) (sym same.counts) rests.counts;
               still = λ z. absurd cc;
               high = λ _. rests.high is_tall;
-            }) merges,
+            }) merges (each-grounds a S (nodes_of k) (found_in k) f.values (same.count ∙ (rests.count ∙ sym (length-nodes_of k)))
+                (λ x. run-grounded meaning law S g rests.rest (first-grounded x) (risen-run u f turns fall rises ended x))),
           )
 
       pub noted-merges : (u : Rows) (f : Held D) → RisesTo a k t u e f → MergesIn a k q i w d f

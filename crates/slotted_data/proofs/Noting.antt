@@ -52,6 +52,7 @@ module _ {D : Type 0} (a : Analysis D) (l : Kept) (q : Rows) (e : Held D) (n f m
   carried-noted k r d carried = record {
     rests = rests-noted carried.rests;
     down = carried.down;
+    grounded = carried.grounded;
     noted = carried.noted;
     counts = counts-then d.counts.own e.counts.own (turned e.counts n f m totals).own carried.counts (turned-goes e.counts n f m totals few carried.rests.counts);
   }
@@ -62,5 +63,6 @@ module _ {D : Type 0} (a : Analysis D) (l : Kept) (q : Rows) (e : Held D) (n f m
     merges = merges.merges;
     absorbs = merges.absorbs;
     down = merges.down;
+    grounded = merges.grounded;
     counts = counts-then d.counts.own e.counts.own (turned e.counts n f m totals).own merges.counts (turned-goes e.counts n f m totals few merges.rests.counts);
   }

@@ -1,5 +1,5 @@
 -- What data at rest and carried data tell callers.
-use Rattle.std.proofs.Common.{◌≡◌, ◌<◌, ℕ, length, Some, sym, ◌∙◌, ap, subst, arith}
+use Rattle.std.proofs.Common.{◌≡◌, ◌<◌, ℕ, List, length, Some, sym, ◌∙◌, ap, subst, arith}
 use Rattle.std.proofs.lemmas.Option.{get_or_from_slice_get, slice_get_within, slice_get-get_or}
 use Rattle.slotted_theory.proofs.Lists.{Contains-nil}
 use Rattle.slotted_model.specs.Find.{find_class}
@@ -10,7 +10,7 @@ use Rattle.slotted_classes.proofs.KeptLists.{length-entries_of, length-nodes_of}
 use Rattle.slotted_hashcons.specs.FiledRows.{Rows, rows_in}
 use Rattle.slotted_data.specs.Held.{Held}
 use Rattle.slotted_data.specs.Made.{data_in}
-use Rattle.slotted_data.specs.Carrying.{DataRests, Carried}
+use Rattle.slotted_data.specs.Carrying.{CarriedWith, DataRests}
 use Rattle.slotted_data.specs.Part.{HasDatum, AbsorbsMade, OnlyFalls, NotesChanges}
 
 module _ {D : Type 0} (a : Analysis D) where
@@ -25,7 +25,7 @@ module _ {D : Type 0} (a : Analysis D) where
       let f = found-in_range (nodes_of k) (entries_of k) (leads (nodes_of k) (entries_of k) rests.rest.sane.sound.linked) i (omega (arith, h, n)) in
       slice_get-get_or d.values (find_class (entries_of k) i) x (omega (arith, f, n, c))
 
-  module _ (k : Kept) (r : Rows) (l : Kept) (q : Rows) (d e : Held D) (rests : DataRests a k r d) (carried : Carried a k r l q d e) where
+  module _ (k : Kept) (r : Rows) (l : Kept) (q : Rows) (d e : Held D) (rests : DataRests a k r d) {given : List (ℕ × D)} (carried : CarriedWith given a k r l q d e) where
     pub carried-falls : OnlyFalls a (entries_of k) d.values (entries_of l) e.values
     carried-falls i h x y old new =
         let n = length-nodes_of k in

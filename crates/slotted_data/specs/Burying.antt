@@ -3,12 +3,13 @@
 --     WaitsOr s t o P        o waits if a node is filed of it, or P holds
 --     BuriesOne a k c ..     the class c, which died, has gone to what it finds
 --     Buries a k cs ..       so have all these classes
-use Rattle.std.specs.Prelude.{◌≡◌, ◌≢◌, ◌⊎◌, ◌<◌, ℕ, List, length, Some, Contains, slice_get}
+use Rattle.std.specs.Prelude.{◌≡◌, ◌≢◌, ◌⊎◌, ◌<◌, ℕ, List, [], length, Some, Contains, slice_get}
 use Rattle.slotted_model.specs.Correspondence.{AllDifferent}
 use Rattle.slotted_model.specs.Find.{IsLive}
 use Rattle.slotted_model_analyses.specs.Analysis.{Analysis, Absorbs}
-use Rattle.slotted_classes.specs.Kept.{Kept, entries_of}
+use Rattle.slotted_classes.specs.Kept.{Kept, entries_of, nodes_of}
 use Rattle.slotted_hashcons.specs.FiledRows.{IsFiled, Rows}
+use Rattle.slotted_data.specs.Grounded.{Grounds, IsOldOr}
 use Rattle.slotted_data.specs.Held.{Held, users_of}
 use Rattle.slotted_data.specs.Made.{data_in}
 use Rattle.slotted_data.specs.Users.{SameValues, WaitEach, WaitsFiled, found_in}
@@ -56,6 +57,7 @@ pub record Buries {D : Type 0} (a : Analysis D) (k : Kept) (cs : List ℕ) (s t 
   pub counts : e.counts ≡ d.counts
   pub rows : WaitsFiled s t
   pub down : (i : ℕ) (x : D) → Absorbs a (data_in x e.values i) (data_in x d.values i)
+  pub grounded : Grounds a (nodes_of k) (found_in k) (IsOldOr [] d.values) e.values
   pub merged : (i : ℕ) (x : D) → Contains cs i → Absorbs a (data_in x e.values (found_in k i)) (data_in x d.values i)
   pub stale : (i : ℕ) → ¬ IsLive (entries_of k) i → HasTheSame e i d i
   pub once : AllDifferent d.changed → AllDifferent e.changed

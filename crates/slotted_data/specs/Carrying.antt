@@ -3,19 +3,22 @@
 --     AreCounted a k d          what is noted of its rebuilds fits
 --     RestedBefore a k r l q d  the older graph rested with d, and the newer one goes on from it
 --     HasCarriedAll l d         each class has data, and each death has been carried
---     Carried a k r l q d e     the newer one is at rest with e, which went down from d; what was made or has changed waits to be modified
+--     Carried a k r l q d e     the newer one is at rest with e, which went down from d and comes from it; what was made or has changed waits to be
+--                               modified
+--     CarriedWith given ..      the same, where data comes from what was given, too
 --     CarriesUp a l q t d e     the steps: users are entered, the dead are buried, and what nodes make goes upwards
 --     MergesIn a k q i v d e    v is merged into the data of the class that i finds, and goes upwards
-use Rattle.std.specs.Prelude.{◌≡◌, ◌<◌, ℕ, List, [], ◌++◌, length, drop, true, false, IsTrue}
+use Rattle.std.specs.Prelude.{◌≡◌, ◌<◌, ℕ, List, [], ◌∷◌, ◌++◌, length, drop, true, false, IsTrue}
 use Rattle.slotted_model.specs.Changes.{GoesOn}
 use Rattle.slotted_model.specs.Rest.{AtRest}
 use Rattle.slotted_model_analyses.specs.Analysis.{Analysis, Absorbs}
 use Rattle.slotted_model_analyses.specs.DataPart.{DataGoesDown, GoesDown, HasData}
 use Rattle.slotted_model_analyses.specs.DataWrites.{HasNotedAll, MergesInto}
-use Rattle.slotted_classes.specs.Kept.{Kept, ListsDead, entries_of, size_of}
+use Rattle.slotted_classes.specs.Kept.{Kept, ListsDead, entries_of, nodes_of, size_of}
 use Rattle.slotted_hashcons.specs.FiledRows.{Rows}
 use Rattle.slotted_rebuilding.specs.Counted.{CountsFit, CountsGo}
 use Rattle.slotted_hashcons.specs.WellFiled.{state_in}
+use Rattle.slotted_data.specs.Grounded.{Grounds, IsOldOr}
 use Rattle.slotted_data.specs.Held.{Held, no_turns}
 use Rattle.slotted_analyses.specs.Meaning.{Meaning, by_bare_nodes}
 use Rattle.slotted_data.specs.Made.{AddsNew, HasHeights, data_in}
@@ -63,12 +66,17 @@ RestedOnce a l q d = (k : Kept) × (r : Rows) × RestedBefore a k r l q d
 abbrev pub HasCarriedAll : {D : Type 0} → Kept → Held D → Type 0
 HasCarriedAll l d = (length d.values ≡ length l.classes) × (d.carried ≡ length l.deaths)
 
--- the data e of the newer graph is that of rest again; it only went down from d; and what was made, or has changed, waits to be modified
-pub record Carried {D : Type 0} (a : Analysis D) (k : Kept) (r : Rows) (l : Kept) (q : Rows) (d e : Held D) : Type 0 where
+-- the data e of the newer graph is that of rest again; it only went down from d; it comes from d, nodes, and what was given; and what was made, or
+-- has changed, waits to be modified
+pub record CarriedWith {D : Type 0} (given : List (ℕ × D)) (a : Analysis D) (k : Kept) (r : Rows) (l : Kept) (q : Rows) (d e : Held D) : Type 0 where
   pub rests : DataRests a l q e
   pub down : (x : D) → DataGoesDown a (state_in k r) (part_of x d []) (state_in l q) (part_of x e [])
+  pub grounded : Grounds a (nodes_of l) (found_in l) (IsOldOr given d.values) e.values
   pub noted : (x : D) → HasNotedAll (state_in k r) (part_of x d []) (state_in l q) (part_of x e [])
   pub counts : CountsGo d.counts.own e.counts.own
+
+abbrev pub Carried : {D : Type 0} → Analysis D → Kept → Rows → Kept → Rows → Held D → Held D → Type 0
+Carried a k r l q d e = CarriedWith [] a k r l q d e
 
 -- and since then each class that was made has got data
 pub record HasNewData {D : Type 0} (meaning : Meaning D) (l : Kept) (q : Rows) (e : Held D) : Type 0 where
@@ -97,4 +105,5 @@ pub record MergesIn {D : Type 0} (a : Analysis D) (k : Kept) (q : Rows) (i : ℕ
   -- merging it again changes nothing
   pub absorbs : (x : D) → Absorbs a (data_in x e.values (found_in k i)) v
   pub down : (x : D) → GoesDown a (part_of x d []) (part_of x e [])
+  pub grounded : Grounds a (nodes_of k) (found_in k) (IsOldOr ((i, v) ∷ []) d.values) e.values
   pub counts : CountsGo d.counts.own e.counts.own

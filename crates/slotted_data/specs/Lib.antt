@@ -1,3 +1,4 @@
+pub mod Grounded
 pub mod Held
 pub mod Made
 pub mod Users

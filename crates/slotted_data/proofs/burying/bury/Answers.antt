@@ -11,8 +11,14 @@ use Rattle.slotted_analyses.specs.Meaning.{by_bare_nodes}
 use Rattle.slotted_analyses.proofs.Merging.{merge-decided}
 use Rattle.slotted_data.specs.Burying.{Buries}
 use Rattle.slotted_data.specs.Users.{found_in}
-use Rattle.slotted_data.proofs.Buried.{buries-next}
+use Rattle.slotted_data.proofs.Buried.{buries-next, buries-none}
 use Rattle.slotted_data.proofs.burying.bury.Goals as goal
+
+pub loop-dead-init : goal.loop-dead-init
+loop-dead-init g c =
+    let a = by_bare_nodes (g.N.Analysis.meaning c.args.analysis.now) in
+    let law : IsMerge g.row.N-Data.Denot a = merge-decided (g.N.Analysis.meaning c.args.analysis.now) g.N.Data.PartialEq.eq g.met.N.Data.Eq.laws g.met.N.Analysis.equal_is_same (g.met.N.Analysis.is_merge c.args.analysis.now) in
+    buries-none a law c.args.store.now c.args.nodes.now c.args.data.now
 
 pub bury_one-requires-clause-within : goal.bury_one-requires-clause-within
 bury_one-requires-clause-within g c =
@@ -36,4 +42,4 @@ loop-dead-preserved g c =
     let lives : (b : ℕ) → b < length c.args.data.now.values → IsLive (entries_of k) (found_in k b) = λ b l. found-live (nodes_of k) (entries_of k) led b (omega (arith, l, count, e)) in
     subst (λ ys. Buries a k ys c.args.nodes.now c.bury_one.new.nodes c.args.data.now c.bury_one.new.data) (sym (take_more xs i 0 (omega (arith, c.loop-dead-test.true))))
     (buries-next a law k c.args.nodes.now c.loop-dead.nodes c.bury_one.new.nodes c.args.data.now c.loop-dead.data c.bury_one.new.data (take i xs) d c.loop-dead.invariant c.in_ok-bury_one.ensures.ok
-    live (c.requires.dead d there) itself lives (λ b o h. let l = c.requires.users b o h in omega (arith, l, count)))
+    live (c.requires.dead d there) itself lives (λ b o h. let l = c.requires.users b o h in omega (arith, l, count)) count)
