@@ -1,5 +1,5 @@
 -- What a graph keeps by its analysis, told by its parts.
-use Rattle.std.proofs.Common.{◌≡◌, ◌<◌, ℕ, List, Bool, true, false, nat_eq, length, map, Option, Some, None, sym, ◌∙◌, ap, refl, subst, arith, inl, inr}
+use Rattle.std.proofs.Common.{◌≡◌, ◌<◌, ℕ, List, [], ◌∷◌, Bool, true, false, nat_eq, length, map, Option, Some, None, sym, ◌∙◌, ap, refl, subst, arith, inl, inr}
 use Rattle.std.proofs.lemmas.Bool.{ltb-true}
 use Rattle.std.specs.Prelude.{◌↔◌, ◌&&◌, Contains, Result, Ok, Err, IfOk, OnErr, count_by, nat_lt, slice_get}
 use Rattle.std.specs.Coded.{Coded}
@@ -9,7 +9,7 @@ use Rattle.std.specs.Ordering.{nat_cmp}
 use Rattle.slotted_slots.specs.declared.error.Error.{Error}
 use Rattle.slotted_model.specs.Applied.{Applied}
 use Rattle.slotted_model.specs.Changes.{GoesOn}
-use Rattle.slotted_model.specs.Find.{Entry, find_class}
+use Rattle.slotted_model.specs.Find.{Entry, Linked, find_class}
 use Rattle.slotted_model.specs.Rest.{AtRest}
 use Rattle.slotted_model.specs.State.{child_classes}
 use Rattle.slotted_model.proofs.Rebuilding.GoingOn.{goes_on-same}
@@ -23,8 +23,11 @@ use Rattle.slotted_analyses.specs.Meaning.{Meaning, by_bare_nodes}
 use Rattle.slotted_data.specs.Held.{Held, with_none_changed}
 use Rattle.slotted_data.specs.Lowering.{quiet}
 use Rattle.slotted_data.specs.Made.{data_in}
-use Rattle.slotted_data.specs.Carrying.{Carried, DataRests, HasCarriedAll, MergesIn}
+use Rattle.slotted_data.specs.Carrying.{Carried, CarriedWith, DataRests, HasCarriedAll, MergesIn}
+use Rattle.slotted_data.specs.Grounded.{Grounds, at_first, IsOldOr, StaysFound}
 use Rattle.slotted_data.specs.Part.{Part, part_by, part_code, part_in}
+use Rattle.slotted_data.specs.Users.{found_in}
+use Rattle.slotted_data.proofs.Grounding.{goes-stays, grounded-later, stays-named, stays-then}
 use Rattle.slotted_data.specs.Pending.{ArePending, lives_in}
 use Rattle.slotted_data.proofs.NewData.{map-same}
 use Rattle.slotted_data.proofs.Resting.{rests-proved}
@@ -40,7 +43,25 @@ use Rattle.slotted_operations.proofs.Graphs.Images.{class_found-is}
 use Rattle.slotted_operations.specs.Reports.{finds_itself}
 use Rattle.slotted_operations.proofs.Graphs.Reports.{compared-alike, live-is}
 use Rattle.slotted_operations.proofs.Graphs.AtRest.{at-rest}
-use Rattle.slotted_graph.specs.Analysed.{AbsorbsMade, CarriesData, CountsPending, HasData, KeepsPart, MergesData, TakesPending, datum_in, is_live_class}
+use Rattle.slotted_graph.specs.Analysed.{AbsorbsMade, CarriesData, CarriesDataWith, CountsPending, HasData, KeepsFound, KeepsPart, MergesData, TakesPending, datum_in, is_live_class}
+
+-- the classes that are found, by an image
+image-finds : (k : Kept) → StaysFound (nodes_of k) (nodes_of k) (found_in k) (class_found (image_of k))
+image-finds k = stays-named (nodes_of k) (found_in k) (class_found (image_of k)) (λ i within. let n = length-nodes_of k in sym (class_found-is k i (omega (arith, within, n))))
+
+finds-image : (k : Kept) → StaysFound (nodes_of k) (nodes_of k) (class_found (image_of k)) (found_in k)
+finds-image k = stays-named (nodes_of k) (class_found (image_of k)) (found_in k) (λ i within. let n = length-nodes_of k in class_found-is k i (omega (arith, within, n)))
+
+images-stay : (k : Kept) (r : Rows) (l : Kept) (q : Rows) → Linked (nodes_of k) (entries_of k) → GoesOn (state_in k r) (state_in l q) → (g h : Image) → image_of k ≡ g → image_of l ≡ h → KeepsFound g h
+images-stay k r l q linked goes g h older newer =
+    let first = stays-then (nodes_of k) (nodes_of k) (nodes_of l) (class_found (image_of k)) (found_in k) (found_in l) (finds-image k) (goes-stays (state_in k r) (state_in l q) linked goes) in
+    let all : KeepsFound (image_of k) (image_of l) = stays-then (nodes_of k) (nodes_of l) (nodes_of l) (class_found (image_of k)) (found_in l) (class_found (image_of l)) first (image-finds l) in
+    subst (λ (z : Image). KeepsFound z h) older (subst (KeepsFound (image_of k)) newer all)
+
+image-grounded : {D : Type 0} (a : Analysis D) (l : Kept) (S : ℕ → D → Type 0) (values : List D) (h : Image) → image_of l ≡ h → Grounds a (nodes_of l) (found_in l) S values → Grounds a h.canonical (class_found h) S values
+image-grounded a l S values h newer from =
+    subst (λ (z : Image). Grounds a z.canonical (class_found z) S values) newer
+    (λ i x at. grounded-later a (nodes_of l) (nodes_of l) (found_in l) (class_found (image_of l)) (image-finds l) S S (λ j y s. at_first j y s) (from i x at))
 
 module _ {N D : Type 0} (codes : Coded N × Coded D) (meaning : N → Meaning D) (n : N) (m : ℕ) (k : Kept) (r : Rows) (d : Held D) (g : Graph)
     (image : image_of k ≡ g.image) (part : g.part ≡ part_by codes n m d) where
@@ -74,9 +95,9 @@ module _ {N D : Type 0} (codes : Coded N × Coded D) (meaning : N → Meaning D)
     }
 
     -- data that was carried along to a later graph
-    pub carries-data : (l : Kept) (q : Rows) (e : Held D) (h : Graph) → image_of l ≡ h.image → h.part ≡ part_by codes n m e → GoesOn (state_in k r) (state_in l q) →
-        Carried (by_bare_nodes (meaning n)) k r l q d e → CarriesData codes meaning g h
-    carries-data l q e h newer later goes carried = record {
+    pub carries-data-with : (given : List (ℕ × D)) (l : Kept) (q : Rows) (e : Held D) (h : Graph) → image_of l ≡ h.image → h.part ≡ part_by codes n m e → GoesOn (state_in k r) (state_in l q) →
+        CarriedWith given (by_bare_nodes (meaning n)) k r l q d e → CarriesDataWith given codes meaning g h
+    carries-data-with given l q e h newer later goes carried = record {
       older = part_in n m d;
       newer = part_in n m e;
       before = part;
@@ -99,9 +120,15 @@ module _ {N D : Type 0} (codes : Coded N × Coded D) (meaning : N → Meaning D)
             ap (slice_get e.values) (ap (λ (z : Image). class_found z i) (sym newer) ∙ class_found-is l i there) ∙ has,
             carried-falls a k r l q d e rests carried i within-entries x y (ap (slice_get d.values) (sym (class-is i here)) ∙ old) has,
           );
+      stays = images-stay k r l q rests.rest.sane.sound.linked goes g.image h.image image newer;
+      comes = image-grounded (by_bare_nodes (meaning n)) l (IsOldOr given d.values) e.values h.image newer carried.grounded;
       notes = carried-notes (by_bare_nodes (meaning n)) k r l q d e rests carried;
       counts = carried.counts;
     }
+
+    pub carries-data : (l : Kept) (q : Rows) (e : Held D) (h : Graph) → image_of l ≡ h.image → h.part ≡ part_by codes n m e → GoesOn (state_in k r) (state_in l q) →
+        Carried (by_bare_nodes (meaning n)) k r l q d e → CarriesData codes meaning g h
+    carries-data l q e h newer later goes carried = carries-data-with [] l q e h newer later goes carried
 
 -- a checked step enters proofs alone
 pub data-checked : {D : Type 0} (meaning : Meaning D) (o : Result ℕ Error) (k l : Kept) (r : Rows) (d : Held D) (x : Proven) → Good l → RestsWith l r → DataRests (by_bare_nodes meaning) k r d → IfOk o (EntersIn k l x) →
@@ -121,10 +148,11 @@ pub kept-part : {N D : Type 0} (codes : Coded N × Coded D) (meaning : N → Mea
 kept-part codes meaning n m k r d rests l same e still = ap (part_by codes n m) (still (carried-same (by_bare_nodes (meaning n)) k r d rests l same))
 
 -- what was merged in was carried along in one graph
-pub merged-carried : {D : Type 0} (a : Analysis D) → IsMerge D a → (k : Kept) (r : Rows) (i : ℕ) (v : D) (d e : Held D) → MergesIn a k r i v d e → Carried a k r k r d e
+pub merged-carried : {D : Type 0} (a : Analysis D) → IsMerge D a → (k : Kept) (r : Rows) (i : ℕ) (v : D) (d e : Held D) → MergesIn a k r i v d e → CarriedWith ((i, v) ∷ []) a k r k r d e
 merged-carried a law k r i v d e m = record {
   rests = m.rests;
   counts = m.counts;
+  grounded = m.grounded;
   down = λ x c h. (m.down x).lower (find_class (entries_of k) c);
   noted = λ x. record {
     kept = (m.down x).kept;
@@ -146,9 +174,8 @@ part-is codes n m e g is p keeps = (part_code codes).inj p (part_in n m e) (sym 
 pub merges-data : {N D : Type 0} (codes : Coded N × Coded D) (meaning : N → Meaning D) (n : N) (m : ℕ) (law : IsMerge D (by_bare_nodes (meaning n))) (k : Kept) (r : Rows) (d e : Held D) (g h : Graph) → image_of k ≡ g.image → image_of k ≡ h.image →
     g.part ≡ part_by codes n m d → h.part ≡ part_by codes n m e → rows_in r.filed ≡ g.filed → DataRests (by_bare_nodes (meaning n)) k r d →
     (i : ℕ) → i < length k.classes → (v : D) → MergesIn (by_bare_nodes (meaning n)) k r i v d e → MergesData codes meaning g h i v
-unfolding carries-data
 merges-data codes meaning n m law k r d e g h before after older newer filed rests i within v into = record {
-  carries = carries-data codes meaning n m k r d g before older rests filed k r e h after newer (goes_on-same (state_in k r) rests.rest.sane.sound.linked) (merged-carried (by_bare_nodes (meaning n)) law k r i v d e into);
+  carries = carries-data-with codes meaning n m k r d g before older rests filed ((i, v) ∷ []) k r e h after newer (goes_on-same (state_in k r) rests.rest.sane.sound.linked) (merged-carried (by_bare_nodes (meaning n)) law k r i v d e into);
   absorbs = record {
     part = part_in n m e;
     keeps = newer;

@@ -20,7 +20,7 @@ use Rattle.slotted_operations.specs.Good.{Good, RestsWith, Unites, image_of}
 use Rattle.slotted_operations.specs.Graph.{Graph}
 use Rattle.slotted_operations.specs.Image.{Image, live_size}
 use Rattle.slotted_operations.proofs.Graphs.Notes.{size-seen}
-use Rattle.slotted_graph.specs.Analysed.{LowersData, is_live_class}
+use Rattle.slotted_graph.specs.Analysed.{LowersDataWith, is_live_class}
 use Rattle.slotted_graph.specs.Extension.{ExtendsTo}
 use Rattle.slotted_graph.specs.Counted.{CountsUnion, HasNoHeights, IsWithinBound, IsWithinCounts, RiseWithin, TellsRebuild, TellsTotals, heights_of, last_of, size_with_data, told_at, totals_with}
 use Rattle.slotted_graph.proofs.Analysed.{lives-is}
@@ -102,9 +102,9 @@ sums-rise c d s t a b =
       ];
     }
 
-pub totals-rise : {N D : Type 0} (codes : Coded N × Coded D) (meaning : N → Meaning D) (g h : Graph) (t u : ℕ × ℕ) → ExtendsTo g h → LowersData codes meaning g h →
+pub totals-rise : {N D : Type 0} (codes : Coded N × Coded D) (meaning : N → Meaning D) (given : List (ℕ × D)) (g h : Graph) (t u : ℕ × ℕ) → ExtendsTo g h → LowersDataWith given codes meaning g h →
     TellsTotals codes g t → TellsTotals codes h u → RiseWithin t u
-totals-rise {N} {D} codes meaning g h t u extends lowers before after =
+totals-rise {N} {D} codes meaning given g h t u extends lowers before after =
     let low = lowers before.part before.keeps in
     let same : low.newer ≡ after.part = (part_code codes).inj low.newer after.part (sym low.after ∙ after.keeps) in
     let goes : CountsGo before.part.counts.own after.part.counts.own = subst (λ (p : Part N D). CountsGo before.part.counts.own p.counts.own) same low.counts in

@@ -8,10 +8,11 @@ use Rattle.slotted_theory.specs.Nameless.{DTerm}
 use Rattle.slotted_model.specs.Applied.{Applied}
 use Rattle.slotted_rebuilding.proofs.RebuildCounts.{counts-same}
 use Rattle.slotted_analyses.specs.declared.edit.Edit.{Edit}
-use Rattle.slotted_analyses.specs.Meaning.{IsMergeOf, Meaning}
+use Rattle.slotted_analyses.specs.Meaning.{IsMergeOf, Meaning, by_bare_nodes}
 use Rattle.slotted_data.specs.Part.{Part, part_code}
+use Rattle.slotted_data.proofs.Grounding.{grounds-itself, stays-itself}
 use Rattle.slotted_operations.specs.LookUp.{HasSameClasses}
-use Rattle.slotted_graph.specs.Analysed.{CountsPending, IsAnalysisOf, LowersData, LowersPart, TakesPending, is_live_class}
+use Rattle.slotted_graph.specs.Analysed.{CountsPending, IsAnalysisOf, KeepsFound, LowersData, LowersDataWith, LowersPart, TakesPending, is_live_class}
 use Rattle.slotted_graph.specs.Extension.{ExtendsTo}
 use Rattle.slotted_operations.specs.Graph.{Graph}
 use Rattle.slotted_operations.specs.Causes.{class_found}
@@ -20,10 +21,10 @@ use Rattle.slotted_operations.specs.Reports.{names_slots, slots_used}
 use Rattle.slotted_graph.specs.States.{IsGraph}
 use Rattle.slotted_graph.proofs.Extending.{between-longer, extends-itself, extends-then}
 use Rattle.slotted_graph.proofs.Insides.{given}
-use Rattle.slotted_graph.specs.Asked.{Asks, IsAskedBetween, IsAskedIn}
+use Rattle.slotted_graph.specs.Asked.{Asks, IsAskedBetween, IsAskedBetweenWith, IsAskedIn}
 use Rattle.slotted_graph.specs.Edited.{AssertsMore, IsSaid, MakesEdits, all_made, then_edit}
 use Rattle.slotted_graph.specs.Rounds.{LeavesModified, Modifies, ModifiesClass, TakesRound, TakesRounds, all_modified, modified, no_rounds, one_round, passed_over, then_modified}
-use Rattle.slotted_graph.proofs.Saying.{carried-lowers, lowers-itself, lowers-then, no-more, said-longer, then-more}
+use Rattle.slotted_graph.proofs.Saying.{carried-lowers, lowers-itself, lowers-then, lowers-then-with, no-more, said-longer, then-more}
 
 -- where data alone changes, and whether the graph failed, it is extended
 other-part : (g : Graph) (failed : Bool) (part : Gv) → ExtendsTo g (record g { failed = failed; part = part })
@@ -106,11 +107,11 @@ module _ {L N D : Type 0} (codes : Coded N × Coded D) (meaning : N → Meaning 
   none-made (then_edit {e = e} {es = es} m x) none = absurd (none e (Contains-push es e))
 
   module _ (law : (n : N) → IsMergeOf (meaning n)) (ask : Asks L N D) where
-    pub asked-longer : (f g h i : Graph) (p : DTerm × DTerm) → ExtendsTo f g → LowersData codes meaning f g → ExtendsTo h i → LowersData codes meaning h i → IsAskedBetween codes meaning ask g h p → IsAskedBetween codes meaning ask f i p
-    asked-longer f g h i p before down after later a = record {
+    pub asked-longer-with : (given : List (ℕ × D)) (f g h i : Graph) (p : DTerm × DTerm) → ExtendsTo f g → LowersDataWith given codes meaning f g → ExtendsTo h i → LowersData codes meaning h i → IsAskedBetween codes meaning ask g h p → IsAskedBetweenWith given codes meaning ask f i p
+    asked-longer-with given f g h i p before down after later a = record {
       moment = a.moment;
       between = between-longer f g h i a.moment before after a.between;
-      down = lowers-then codes meaning law f g a.moment before down a.down;
+      down = lowers-then-with given codes meaning law f g a.moment before down a.down;
       later = lowers-then codes meaning law a.moment h i a.between.before a.later later;
       class = a.class;
       lives = a.lives;
@@ -118,6 +119,22 @@ module _ {L N D : Type 0} (codes : Coded N × Coded D) (meaning : N → Meaning 
       is_asked = a.is_asked;
       says = said-longer a.moment a.moment h i (names_slots a.moment.image a.class) a.edit p (extends-itself a.moment) after a.says;
     }
+
+    pub asked-on-with : (given : List (ℕ × D)) (f h i : Graph) (p : DTerm × DTerm) → ExtendsTo h i → LowersData codes meaning h i → IsAskedBetweenWith given codes meaning ask f h p → IsAskedBetweenWith given codes meaning ask f i p
+    asked-on-with given f h i p after later a = record {
+      moment = a.moment;
+      between = between-longer f f h i a.moment (extends-itself f) after a.between;
+      down = a.down;
+      later = lowers-then codes meaning law a.moment h i a.between.before a.later later;
+      class = a.class;
+      lives = a.lives;
+      edit = a.edit;
+      is_asked = a.is_asked;
+      says = said-longer a.moment a.moment h i (names_slots a.moment.image a.class) a.edit p (extends-itself a.moment) after a.says;
+    }
+
+    pub asked-longer : (f g h i : Graph) (p : DTerm × DTerm) → ExtendsTo f g → LowersData codes meaning f g → ExtendsTo h i → LowersData codes meaning h i → IsAskedBetween codes meaning ask g h p → IsAskedBetween codes meaning ask f i p
+    asked-longer f g h i p before down after later a = asked-longer-with [] f g h i p before down after later a
 
     pub leaves-itself : (g : Graph) → IsGraph g → LeavesModified codes meaning ask g g
     leaves-itself g is = record {
@@ -195,6 +212,8 @@ module _ {L N D : Type 0} (codes : Coded N × Coded D) (meaning : N → Meaning 
               ap (λ (z : Image). slice_get takes.part.values (class_found z i)) same.image ∙ has,
               (law takes.part.analysis).idempotent x,
             );
+            stays = subst (KeepsFound g.image) (sym same.image) (stays-itself g.image.canonical (class_found g.image));
+            comes = grounds-itself (by_bare_nodes (meaning takes.part.analysis)) h.image.canonical (class_found h.image) [] takes.part.values;
           });
       alone = λ n k nothing. same;
     }

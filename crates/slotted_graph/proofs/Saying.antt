@@ -1,6 +1,6 @@
 -- What edits say, and that it stays said as a graph is extended.
 use Rattle.std.proofs.Common.{◌≡◌, ◌∙◌, ◌<◌, ℕ, List, [], ◌∷◌, ◌++◌, length, append_assoc, ap, refl, sym, subst, inl, inr, arith, length-append}
-use Rattle.std.specs.Prelude.{◌⊎◌, Bool, true, false, IsTrue, IsOk, IsErrOf, IfOk, IfErr, None, Result, Ok, Err, slice_index_or}
+use Rattle.std.specs.Prelude.{◌⊎◌, Bool, true, false, IsTrue, IsOk, IsErrOf, IfOk, IfErr, None, Result, Ok, Err, slice_get, slice_index_or}
 use Rattle.std.specs.Coded.{Coded}
 use Rattle.std.proofs.lemmas.Bool.{false≢true}
 use Rattle.std.proofs.lemmas.List.{append-nil, get_or_append_left}
@@ -30,8 +30,11 @@ use Rattle.slotted_analyses.specs.declared.edit.Edit.TheVariants.{Add, Equal, Eq
 use Rattle.slotted_analyses.specs.Edits.{IsValidEdit}
 use Rattle.slotted_model_analyses.specs.Analysis.{Absorbs}
 use Rattle.slotted_model_analyses.proofs.Absorbing.{absorbs-through}
+use Rattle.slotted_data.specs.Grounded.{Grounds, IsOldOr}
 use Rattle.slotted_data.specs.Part.{NotesChanges, Part, part_code}
-use Rattle.slotted_graph.specs.Analysed.{AbsorbsValue, CarriesData, DataFalls, LowersData, LowersPart}
+use Rattle.slotted_data.proofs.Grounding.{grounds-itself, grounds-then, stays-itself, stays-then}
+use Rattle.slotted_operations.specs.Causes.{class_found}
+use Rattle.slotted_graph.specs.Analysed.{AbsorbsValue, CarriesData, CarriesDataWith, DataComes, DataFalls, LowersData, LowersDataWith, LowersPartWith}
 use Rattle.slotted_graph.specs.Extension.{Begins, ExtendsTo}
 use Rattle.slotted_operations.specs.Graph.{Graph, IsFullId, RecordsUnion}
 use Rattle.slotted_operations.specs.Image.{AddsClasses, FillApart, IsUnion, asserted_in}
@@ -45,14 +48,17 @@ pub more-then : (t u v : Table) → KnowsMore t u → KnowsMore u v → KnowsMor
 more-then t u v first second s known = second s (first s known)
 
 -- data that was carried along only went down
-pub carried-lowers : {N D : Type 0} (codes : Coded N × Coded D) (meaning : N → Meaning D) (g h : Graph) → CarriesData codes meaning g h → LowersData codes meaning g h
-carried-lowers {N} {D} codes meaning g h c p keeps =
+pub carried-lowers-with : {N D : Type 0} (given : List (ℕ × D)) (codes : Coded N × Coded D) (meaning : N → Meaning D) (g h : Graph) → CarriesDataWith given codes meaning g h → LowersDataWith given codes meaning g h
+carried-lowers-with {N} {D} given codes meaning g h c p keeps =
     let same : c.older ≡ p = (part_code codes).inj c.older p (sym c.before ∙ keeps) in
-    subst (λ (q : Part N D). LowersPart codes meaning g q h) same (record { newer = c.newer; after = c.after; analysis = c.analysis; rounds = c.rounds; falls = c.falls; counts = c.counts })
+    subst (λ (q : Part N D). LowersPartWith given codes meaning g q h) same (record { newer = c.newer; after = c.after; analysis = c.analysis; rounds = c.rounds; falls = c.falls; stays = c.stays; comes = c.comes; counts = c.counts })
+
+pub carried-lowers : {N D : Type 0} (codes : Coded N × Coded D) (meaning : N → Meaning D) (g h : Graph) → CarriesData codes meaning g h → LowersData codes meaning g h
+carried-lowers codes meaning g h c = carried-lowers-with [] codes meaning g h c
 
 -- data that goes down twice goes down
-pub lowers-then : {N D : Type 0} (codes : Coded N × Coded D) (meaning : N → Meaning D) (law : (n : N) → IsMergeOf (meaning n)) (f g h : Graph) → ExtendsTo f g → LowersData codes meaning f g → LowersData codes meaning g h → LowersData codes meaning f h
-lowers-then {N} {D} codes meaning law f g h extends first second p keeps =
+pub lowers-then-with : {N D : Type 0} (given : List (ℕ × D)) (codes : Coded N × Coded D) (meaning : N → Meaning D) (law : (n : N) → IsMergeOf (meaning n)) (f g h : Graph) → ExtendsTo f g → LowersDataWith given codes meaning f g → LowersData codes meaning g h → LowersDataWith given codes meaning f h
+lowers-then-with {N} {D} given codes meaning law f g h extends first second p keeps =
     let a = first p keeps in
     let b = second a.newer a.after in
     record {
@@ -67,7 +73,13 @@ lowers-then {N} {D} codes meaning law f g h extends first second p keeps =
           let m = meaning p.analysis in
           let down : Absorbs (by_bare_nodes m) z.0 y.0 = subst (λ (n : N). Absorbs (by_bare_nodes (meaning n)) z.0 y.0) a.analysis z.2 in
           (z.0, z.1, absorbs-through (by_bare_nodes m) (law p.analysis).associative z.0 y.0 x down y.2);
+      stays = stays-then f.image.canonical g.image.canonical h.image.canonical (class_found f.image) (class_found g.image) (class_found h.image) a.stays b.stays;
+      comes = grounds-then (by_bare_nodes (meaning p.analysis)) g.image.canonical h.image.canonical (class_found g.image) (class_found h.image) b.stays given p.values a.newer.values b.newer.values
+          a.comes (subst (λ (n : N). Grounds (by_bare_nodes (meaning n)) h.image.canonical (class_found h.image) (IsOldOr [] a.newer.values) b.newer.values) a.analysis b.comes);
     }
+
+pub lowers-then : {N D : Type 0} (codes : Coded N × Coded D) (meaning : N → Meaning D) (law : (n : N) → IsMergeOf (meaning n)) (f g h : Graph) → ExtendsTo f g → LowersData codes meaning f g → LowersData codes meaning g h → LowersData codes meaning f h
+lowers-then codes meaning law f g h extends first second = lowers-then-with [] codes meaning law f g h extends first second
 
 -- and data that stays has gone down
 pub lowers-itself : {N D : Type 0} (codes : Coded N × Coded D) (meaning : N → Meaning D) (law : (n : N) → IsMergeOf (meaning n)) (g : Graph) → LowersData codes meaning g g
@@ -78,7 +90,25 @@ lowers-itself codes meaning law g p keeps = record {
   rounds = refl;
   counts = counts-same p.counts.own;
   falls = λ i within x has. (x, has, (law p.analysis).idempotent x);
+  stays = stays-itself g.image.canonical (class_found g.image);
+  comes = grounds-itself (by_bare_nodes (meaning p.analysis)) g.image.canonical (class_found g.image) [] p.values;
 }
+
+-- so has data where what is kept stays, and what classes find does
+pub lowers-same : {N D : Type 0} (codes : Coded N × Coded D) (meaning : N → Meaning D) (law : (n : N) → IsMergeOf (meaning n)) (g h : Graph) → Extends g.image.canonical h.image.canonical → h.image.found ≡ g.image.found → h.part ≡ g.part → LowersData codes meaning g h
+lowers-same codes meaning law g h extends found part p keeps = record {
+  newer = p;
+  after = part ∙ keeps;
+  analysis = refl;
+  rounds = refl;
+  counts = counts-same p.counts.own;
+  falls = λ i within x has. (x, ap (slice_get p.values) (finds i) ∙ has, (law p.analysis).idempotent x);
+  stays = record { stays = extends.classes; together = λ b c in_b in_c same. finds b ∙ (same ∙ sym (finds c)) };
+  comes = grounds-itself (by_bare_nodes (meaning p.analysis)) h.image.canonical (class_found h.image) [] p.values;
+}
+  where
+    finds : (i : ℕ) → class_found h.image i ≡ class_found g.image i
+    finds i = ap (λ (xs : List Applied). (slice_index_or xs i (0, [])).0) found
 
 -- what was made or has changed in the one call or in the other waits to be modified
 pub notes-then : {D : Type 0} (values later last : List D) (changed more all : List ℕ) → NotesChanges values changed later more → NotesChanges later more last all → NotesChanges values changed last all
@@ -101,6 +131,8 @@ carries-then {N} {D} codes meaning law f g h extends a b =
       analysis = subst (λ (q : Part N D). q.analysis ≡ a.older.analysis) last both.analysis;
       rounds = subst (λ (q : Part N D). q.rounds ≡ a.older.rounds) last both.rounds;
       falls = subst (DataFalls meaning f a.older h) last both.falls;
+      stays = both.stays;
+      comes = subst (DataComes [] meaning a.older h) last both.comes;
       notes = λ d. notes-then a.older.values b.older.values b.newer.values a.older.changed b.older.changed b.newer.changed
           (subst (λ (q : Part N D). NotesChanges a.older.values a.older.changed q.values q.changed) same (a.notes d)) (b.notes d);
       counts = subst (λ (q : Part N D). CountsGo a.older.counts.own q.counts.own) last both.counts;

@@ -1,8 +1,5 @@
 -- Data that was at rest, and what each write has done since: so it can be carried along.
 use Rattle.std.proofs.Common.{◌≡◌, length, sym, ◌∙◌, ap}
-use Rattle.slotted_slots.specs.Table.{Table}
-use Rattle.slotted_theory.specs.Term.{Term}
-use Rattle.slotted_model.specs.Applied.{Applied}
 use Rattle.slotted_model.specs.Changes.{GoesOn}
 use Rattle.slotted_model_analyses.specs.Analysis.{Analysis}
 use Rattle.slotted_classes.specs.Kept.{Kept}

@@ -1,5 +1,5 @@
 -- What writes leave that modify classes at their ends.
-use Rattle.std.proofs.Common.{◌≡◌, ◌∙◌, ap, refl, sym, subst, inl, inr, arith}
+use Rattle.std.proofs.Common.{◌≡◌, ◌∙◌, ◌∷◌, [], ap, refl, sym, subst, inl, inr, arith}
 use Rattle.std.specs.Prelude.{◌⊎◌, ◌↔◌, Bool, false, true, IfOk, IsErr, IsSome, IsTrue, List, OnOk, Option, Result, Ok, Err, ℕ}
 use Rattle.slotted_slots.specs.declared.error.Error.{Error}
 use Rattle.std.specs.Coded.{Coded}
@@ -18,16 +18,16 @@ use Rattle.slotted_operations.specs.Graph.{Graph, RecordsUnion}
 use Rattle.slotted_operations.specs.Image.{AddsClasses, FoundAlike, IsUnion, asserted_in}
 use Rattle.slotted_operations.specs.LookUp.{IsOneGraph, MakesClassFor, look_up}
 use Rattle.slotted_operations.specs.ValidIds.{IsValidNode}
-use Rattle.slotted_graph.specs.Analysed.{CarriesData, CountsPending, HasRounds}
-use Rattle.slotted_graph.specs.Asked.{Asks, IsAskedBetween}
+use Rattle.slotted_graph.specs.Analysed.{CarriesData, CarriesDataWith, CountsPending, HasRounds}
+use Rattle.slotted_graph.specs.Asked.{Asks, IsAskedBetween, IsAskedBetweenWith}
 use Rattle.slotted_graph.specs.Extension.{ExtendsTo}
 use Rattle.slotted_graph.specs.Rounds.{IsModified, LeavesModified, MakesRounds, no_rounds}
 use Rattle.slotted_graph.specs.States.{IsGraph}
-use Rattle.slotted_graph.specs.Writing.{AddsAndModifies, AddsMore, ExplainsAndModifies, IfUnmodified, LeavesAsked, MakesForNode, MakesForSynTerm, MergesAndModifies, UnitesAndModifies}
+use Rattle.slotted_graph.specs.Writing.{AddsAndModifies, AddsMore, ExplainsAndModifies, IfUnmodified, LeavesAsked, LeavesAskedWith, MakesForNode, MakesForSynTerm, MergesAndModifies, UnitesAndModifies}
 use Rattle.slotted_graph.proofs.Extending.{extends-added, extends-itself, extends-then, extends-united}
 use Rattle.slotted_graph.proofs.Insides.{given}
-use Rattle.slotted_graph.proofs.Leaving.{asked-longer, extends-kept, leaves-itself}
-use Rattle.slotted_graph.proofs.Saying.{carried-lowers, graph-kept, lowers-itself, lowers-then, no-more, then-more}
+use Rattle.slotted_graph.proofs.Leaving.{asked-longer-with, asked-on-with, extends-kept, leaves-itself}
+use Rattle.slotted_graph.proofs.Saying.{carried-lowers-with, graph-kept, lowers-itself, lowers-then-with, no-more, then-more}
 
 -- which classes were made, told of an answer
 pub ok-both : {A : Type 0} (r : Result A Error) (P Q : Type 0) → OnOk r P → OnOk r Q → OnOk r (P × Q)
@@ -111,22 +111,28 @@ module _ {L N D : Type 0} (codes : Coded N × Coded D) (meaning : N → Meaning 
   leaves-asked : (g h : Graph) → LeavesModified codes meaning ask g h → LeavesAsked codes meaning ask g h
   leaves-asked g h l = record { extends = l.extends; asserts = l.asserts; lowers = l.lowers }
 
-  asks-none : (g h : Graph) → ExtendsTo g h → asserted_in h.image ≡ asserted_in g.image → CarriesData codes meaning g h → LeavesAsked codes meaning ask g h
-  asks-none g h extends same carries = record {
+  asks-none-with : (given : List (ℕ × D)) (g h : Graph) → ExtendsTo g h → asserted_in h.image ≡ asserted_in g.image → CarriesDataWith given codes meaning g h → LeavesAskedWith given codes meaning ask g h
+  asks-none-with given g h extends same carries = record {
     extends = extends;
-    asserts = no-more (IsAskedBetween codes meaning ask g h) g h same;
-    lowers = carried-lowers codes meaning g h carries;
+    asserts = no-more (IsAskedBetweenWith given codes meaning ask g h) g h same;
+    lowers = carried-lowers-with given codes meaning g h carries;
+  }
+
+  asks-none : (g h : Graph) → ExtendsTo g h → asserted_in h.image ≡ asserted_in g.image → CarriesData codes meaning g h → LeavesAsked codes meaning ask g h
+  asks-none g h extends same carries = asks-none-with [] g h extends same carries
+
+  asked-then-with : (given : List (ℕ × D)) (f g h : Graph) → LeavesAskedWith given codes meaning ask f g → LeavesAsked codes meaning ask g h → LeavesAskedWith given codes meaning ask f h
+  asked-then-with given f g h a b = record {
+    extends = extends-then f g h a.extends b.extends;
+    asserts = then-more (IsAskedBetweenWith given codes meaning ask f g) (IsAskedBetween codes meaning ask g h) (IsAskedBetweenWith given codes meaning ask f h) f g h
+        (λ p x. asked-on-with codes meaning law ask given f g h p b.extends b.lowers x)
+        (λ p x. asked-longer-with codes meaning law ask given f g h h p a.extends a.lowers (extends-itself h) (lowers-itself codes meaning law h) x)
+        a.asserts b.asserts;
+    lowers = lowers-then-with given codes meaning law f g h a.extends a.lowers b.lowers;
   }
 
   pub asked-then : (f g h : Graph) → LeavesAsked codes meaning ask f g → LeavesAsked codes meaning ask g h → LeavesAsked codes meaning ask f h
-  asked-then f g h a b = record {
-    extends = extends-then f g h a.extends b.extends;
-    asserts = then-more (IsAskedBetween codes meaning ask f g) (IsAskedBetween codes meaning ask g h) (IsAskedBetween codes meaning ask f h) f g h
-        (λ p x. asked-longer codes meaning law ask f f g h p (extends-itself f) (lowers-itself codes meaning law f) b.extends b.lowers x)
-        (λ p x. asked-longer codes meaning law ask f g h h p a.extends a.lowers (extends-itself h) (lowers-itself codes meaning law h) x)
-        a.asserts b.asserts;
-    lowers = lowers-then codes meaning law f g h a.extends a.lowers b.lowers;
-  }
+  asked-then f g h a b = asked-then-with [] f g h a b
 
   -- what adds and modifies leaves nothing that was not asked
   pub adds-asked : (modifies : Bool) (W : Graph → Graph → Type 0) (g h : Graph) → AddsAndModifies codes meaning ask modifies W g h → LeavesAsked codes meaning ask g h
@@ -139,9 +145,9 @@ module _ {L N D : Type 0} (codes : Coded N × Coded D) (meaning : N → Meaning 
       ]
 
   -- nor does what merges and modifies
-  pub merges-asked : (modifies : Bool) (g h : Graph) (i : ℕ) (v : D) → MergesAndModifies codes meaning ask modifies g h i v → LeavesAsked codes meaning ask g h
+  pub merges-asked : (modifies : Bool) (g h : Graph) (i : ℕ) (v : D) → MergesAndModifies codes meaning ask modifies g h i v → LeavesAskedWith ((i, v) ∷ []) codes meaning ask g h
   merges-asked modifies g h i v m =
-      asked-then g m.merged h (asks-none g m.merged (extends-kept g m.merged m.same) (ap asserted_in m.same.image) m.merges.carries) (leaves-asked m.merged h m.rounds.leaves)
+      asked-then-with ((i, v) ∷ []) g m.merged h (asks-none-with ((i, v) ∷ []) g m.merged (extends-kept g m.merged m.same) (ap asserted_in m.same.image) m.merges.carries) (leaves-asked m.merged h m.rounds.leaves)
 
   -- what was added by a call that modifies no class
   pub adds-more : (W : Graph → Graph → Type 0) (g h : Graph) → IsGraph h → Extends g.image.canonical h.image.canonical → AddsClasses g.image h.image → KnowsMore g.table h.table → CarriesData codes meaning g h → W g h → AddsMore codes meaning W g h

@@ -6,12 +6,13 @@
 --     HasData codes g i x            the data of the class that i finds
 --     AbsorbsMade codes meaning g    merging what a filed node makes into the data of its class changes nothing
 --     CountsPending codes g n        so many live classes wait to be modified
---     LowersData codes meaning g h   data only went down, and the analysis and the limit of rounds are the same
---     CarriesData codes meaning g h  from g to h data only went down, and what was made or has changed waits to be modified
+--     LowersData codes meaning g h   data only went down, it comes from that of g and from nodes, and the analysis and the limit of rounds are the same
+--     CarriesData codes meaning g h  so it did from g to h, and what was made or has changed waits to be modified
+--     LowersDataWith given .., CarriesDataWith given ..    the same, where data comes from this, too, which was given for classes
 --     AbsorbsValue codes meaning h i v    the class that i finds has data that merging v changes nothing of
---     MergesData ..                  data was carried along so, and the class that i finds has data that absorbs v
+--     MergesData ..                  data was carried along so, with v given for the class i, and the class that i finds has data that absorbs v
 --     TakesPending codes g h is      from g to h the live classes that waited were taken, and these are they, ascending
-use Rattle.std.specs.Prelude.{◌≡◌, ◌<◌, ℕ, List, [], length, Bool, ◌&&◌, count_by, map, nat_lt, slice_get, slice_index_or, Some, Contains}
+use Rattle.std.specs.Prelude.{◌≡◌, ◌<◌, ℕ, List, [], ◌∷◌, length, Bool, ◌&&◌, count_by, map, nat_lt, slice_get, slice_index_or, Some, Contains}
 use Rattle.std.specs.Coded.{Coded}
 use Rattle.std.specs.List.{filter}
 use Rattle.std.specs.List.Sorted.{IsPermutation, IsSorted}
@@ -22,6 +23,7 @@ use Rattle.slotted_model.specs.State.{Row, child_classes}
 use Rattle.slotted_model_analyses.specs.Analysis.{Absorbs}
 use Rattle.slotted_rebuilding.specs.Counted.{CountsGo}
 use Rattle.slotted_analyses.specs.Meaning.{Meaning, by_bare_nodes}
+use Rattle.slotted_data.specs.Grounded.{Grounds, IsOldOr, StaysFound}
 use Rattle.slotted_data.specs.Held.{no_values}
 use Rattle.slotted_data.specs.Part.{Part, NotesChanges, part_by, part_code}
 use Rattle.slotted_operations.specs.Causes.{class_found}
@@ -90,20 +92,37 @@ abbrev pub DataFalls : {N D : Type 0} → (N → Meaning D) → Graph → Part N
 DataFalls {D = D} meaning g older h newer =
     (i : ℕ) → i < length g.image.canonical → (x : D) → HasDatumIn g older i x → (y : D) × HasDatumIn h newer i y × Absorbs (by_bare_nodes (meaning older.analysis)) y x
 
+-- classes of g stay in h, and so it stays which of them find the same
+abbrev pub KeepsFound : Image → Image → Type 0
+KeepsFound g h = StaysFound g.canonical h.canonical (class_found g) (class_found h)
+
+-- the data of each class of h comes from that of g, from what was given, and from what nodes make of such data
+abbrev pub DataComes : {N D : Type 0} → List (ℕ × D) → (N → Meaning D) → Part N D → Graph → Part N D → Type 0
+DataComes given meaning older h newer =
+    Grounds (by_bare_nodes (meaning older.analysis)) h.image.canonical (class_found h.image) (IsOldOr given older.values) newer.values
+
 -- what h keeps, where g keeps this
-pub record LowersPart {N D : Type 0} (codes : Coded N × Coded D) (meaning : N → Meaning D) (g : Graph) (older : Part N D) (h : Graph) : Type 0 where
+pub record LowersPartWith {N D : Type 0} (given : List (ℕ × D)) (codes : Coded N × Coded D) (meaning : N → Meaning D) (g : Graph) (older : Part N D) (h : Graph) : Type 0 where
   pub newer : Part N D
   pub after : KeepsPart codes h newer
   pub analysis : newer.analysis ≡ older.analysis
   pub rounds : newer.rounds ≡ older.rounds
   pub falls : DataFalls meaning g older h newer
+  pub stays : KeepsFound g.image h.image
+  pub comes : DataComes given meaning older h newer
   -- the totals over all turns for data rise, that of turns by no more than that of bounds
   pub counts : CountsGo older.counts.own newer.counts.own
 
-abbrev pub LowersData : {N D : Type 0} → Coded N × Coded D → (N → Meaning D) → Graph → Graph → Type 0
-LowersData {N} {D} codes meaning g h = (older : Part N D) → KeepsPart codes g older → LowersPart codes meaning g older h
+abbrev pub LowersPart : {N D : Type 0} → Coded N × Coded D → (N → Meaning D) → Graph → Part N D → Graph → Type 0
+LowersPart codes meaning g older h = LowersPartWith [] codes meaning g older h
 
-pub record CarriesData {N D : Type 0} (codes : Coded N × Coded D) (meaning : N → Meaning D) (g h : Graph) : Type 0 where
+abbrev pub LowersDataWith : {N D : Type 0} → List (ℕ × D) → Coded N × Coded D → (N → Meaning D) → Graph → Graph → Type 0
+LowersDataWith {N} {D} given codes meaning g h = (older : Part N D) → KeepsPart codes g older → LowersPartWith given codes meaning g older h
+
+abbrev pub LowersData : {N D : Type 0} → Coded N × Coded D → (N → Meaning D) → Graph → Graph → Type 0
+LowersData codes meaning g h = LowersDataWith [] codes meaning g h
+
+pub record CarriesDataWith {N D : Type 0} (given : List (ℕ × D)) (codes : Coded N × Coded D) (meaning : N → Meaning D) (g h : Graph) : Type 0 where
   pub older : Part N D
   pub newer : Part N D
   pub before : KeepsPart codes g older
@@ -111,8 +130,13 @@ pub record CarriesData {N D : Type 0} (codes : Coded N × Coded D) (meaning : N 
   pub analysis : newer.analysis ≡ older.analysis
   pub rounds : newer.rounds ≡ older.rounds
   pub falls : DataFalls meaning g older h newer
+  pub stays : KeepsFound g.image h.image
+  pub comes : DataComes given meaning older h newer
   pub notes : D → NotesChanges older.values older.changed newer.values newer.changed
   pub counts : CountsGo older.counts.own newer.counts.own
+
+abbrev pub CarriesData : {N D : Type 0} → Coded N × Coded D → (N → Meaning D) → Graph → Graph → Type 0
+CarriesData codes meaning g h = CarriesDataWith [] codes meaning g h
 
 pub record AbsorbsValue {N D : Type 0} (codes : Coded N × Coded D) (meaning : N → Meaning D) (h : Graph) (i : ℕ) (v : D) : Type 0 where
   pub part : Part N D
@@ -122,7 +146,7 @@ pub record AbsorbsValue {N D : Type 0} (codes : Coded N × Coded D) (meaning : N
   pub absorbs : Absorbs (by_bare_nodes (meaning part.analysis)) datum v
 
 pub record MergesData {N D : Type 0} (codes : Coded N × Coded D) (meaning : N → Meaning D) (g h : Graph) (i : ℕ) (v : D) : Type 0 where
-  pub carries : CarriesData codes meaning g h
+  pub carries : CarriesDataWith ((i, v) ∷ []) codes meaning g h
   pub absorbs : AbsorbsValue codes meaning h i v
 
 -- no class waited twice, the live ones of those that waited are taken, ascending, and nothing else of what is kept has changed

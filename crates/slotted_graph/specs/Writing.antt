@@ -8,7 +8,8 @@
 --     ExplainsAndModifies ..      two terms were added, each with what is asked then, and explained, which asserts nothing and modifies no class
 --     IfUnmodified m P            P, unless classes are modified
 --     LeavesAsked .. g h          what was there stays, data only went down, and nothing was asserted but what edits say
-use Rattle.std.specs.Prelude.{◌≡◌, ◌⊎◌, ℕ, List, Bool, IsSome, Option, true, false}
+--     LeavesAskedWith given .. g h    the same, where data comes from this, too, which was given for classes
+use Rattle.std.specs.Prelude.{◌≡◌, ◌⊎◌, ℕ, List, [], Bool, IsSome, Option, true, false}
 use Rattle.std.specs.Coded.{Coded}
 use Rattle.slotted_slots.specs.declared.types.AppliedId.{AppliedId}
 use Rattle.slotted_theory.specs.Term.{Term}
@@ -22,8 +23,8 @@ use Rattle.slotted_operations.specs.Explaining.{AddsTerms, KeepsKnown}
 use Rattle.slotted_operations.specs.Graph.{FilesOnlySubterms, Graph, RecordsUnion, id_of_term}
 use Rattle.slotted_operations.specs.Image.{IsUnion, asserted_in}
 use Rattle.slotted_operations.specs.LookUp.{HasSameClasses, IsOneGraph, MakesClassFor, look_up, look_up_term}
-use Rattle.slotted_graph.specs.Analysed.{CarriesData, LowersData, MergesData}
-use Rattle.slotted_graph.specs.Asked.{Asks, IsAskedBetween}
+use Rattle.slotted_graph.specs.Analysed.{CarriesData, LowersDataWith, MergesData}
+use Rattle.slotted_graph.specs.Asked.{Asks, IsAskedBetweenWith}
 use Rattle.slotted_graph.specs.Edited.{AssertsMore}
 use Rattle.slotted_graph.specs.Extension.{ExtendsTo}
 use Rattle.slotted_graph.specs.Rounds.{IsModified}
@@ -57,10 +58,13 @@ pub record AddsMore {N D : Type 0} (codes : Coded N × Coded D) (meaning : N →
   pub carries : CarriesData codes meaning g h
   pub made : W g h
 
-pub record LeavesAsked {L N D : Type 0} (codes : Coded N × Coded D) (meaning : N → Meaning D) (ask : Asks L N D) (g h : Graph) : Type 0 where
+pub record LeavesAskedWith {L N D : Type 0} (given : List (ℕ × D)) (codes : Coded N × Coded D) (meaning : N → Meaning D) (ask : Asks L N D) (g h : Graph) : Type 0 where
   pub extends : ExtendsTo g h
-  pub asserts : AssertsMore (IsAskedBetween codes meaning ask g h) g h
-  pub lowers : LowersData codes meaning g h
+  pub asserts : AssertsMore (IsAskedBetweenWith given codes meaning ask g h) g h
+  pub lowers : LowersDataWith given codes meaning g h
+
+abbrev pub LeavesAsked : {L N D : Type 0} → Coded N × Coded D → (N → Meaning D) → Asks L N D → Graph → Graph → Type 0
+LeavesAsked codes meaning ask g h = LeavesAskedWith [] codes meaning ask g h
 
 pub record AddsAndModifies {L N D : Type 0} (codes : Coded N × Coded D) (meaning : N → Meaning D) (ask : Asks L N D) (modifies : Bool) (W : Graph → Graph → Type 0) (g h : Graph) : Type 0 where
   pub added : Graph

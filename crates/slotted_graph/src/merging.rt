@@ -1,10 +1,10 @@
 //! Merging values into the data of classes.
-ghost use Rattle.std.specs.Prelude.{◌≡◌, ◌⊎◌, ◌↔◌, ◌<◌, length, IsTrue, IfErr, IsErr, IsErrOf, OnOk};
+ghost use Rattle.std.specs.Prelude.{◌≡◌, ◌⊎◌, ◌↔◌, ◌<◌, ◌∷◌, [], length, IsTrue, IfErr, IsErr, IsErrOf, OnOk};
 ghost use Rattle.slotted_slots.specs.Error.{IsShortage};
 ghost use Rattle.slotted_slots.specs.Table.{KnowsMore};
 ghost use Rattle.slotted_operations.specs.LookUp.{HasSameClasses};
 ghost use Rattle.slotted_graph.specs.Analysed.{AbsorbsValue, MergesData};
-ghost use Rattle.slotted_graph.specs.Writing.{IfUnmodified, LeavesAsked, MergesAndModifies};
+ghost use Rattle.slotted_graph.specs.Writing.{IfUnmodified, LeavesAskedWith, MergesAndModifies};
 
 use crate::egraph::EGraph;
 use slotted_analyses::Analysis;
@@ -17,12 +17,12 @@ impl<L: Language, N: Analysis<L>> EGraph<L, N> {
     pub fn merge_analysis_data(&mut self, id: Id, value: &N::Data) -> Result<(), Error>
         requires { IsTrue self.old.failed ⊎ (id.0 < length self.old.image.canonical) }
 
-        // Data is only lowered, and merging the value again changes nothing. Only what the analysis asks for is
-        // asserted.
+        // Data is only lowered, it comes from the value and from what was there, and merging the value again changes
+        // nothing. Only what the analysis asks for is asserted.
         ensures modified { OnOk result
             (MergesAndModifies N.codes N.meaning N.may_ask N.modifies self.old self.new id.0 value.now) }
         ensures absorbs { OnOk result (AbsorbsValue N.codes N.meaning self.new id.0 value.now) }
-        ensures leaves { OnOk result (LeavesAsked N.codes N.meaning N.may_ask self.old self.new) }
+        ensures leaves { OnOk result (LeavesAskedWith ((id.0, value.now) ∷ []) N.codes N.meaning N.may_ask self.old self.new) }
         ensures more { KnowsMore self.old.table self.new.table }
 
         // If classes are never modified, only data changes, and no slot is wanted.

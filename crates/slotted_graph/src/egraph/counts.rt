@@ -1,8 +1,8 @@
 //! The counts of rebuilds.
-ghost use Rattle.std.specs.Prelude.{◌≡◌, ◌⊎◌, ℕ, IsTrue};
+ghost use Rattle.std.specs.Prelude.{◌≡◌, ◌⊎◌, ℕ, List, IsTrue};
 ghost use Rattle.slotted_classes.specs.Counts.{last_count};
 ghost use Rattle.slotted_operations.specs.Graph.{Graph, totals_of};
-ghost use Rattle.slotted_graph.specs.Analysed.{LowersData};
+ghost use Rattle.slotted_graph.specs.Analysed.{LowersDataWith};
 ghost use Rattle.slotted_graph.specs.Counted.{HasNoHeights, IsWithinCounts, RiseWithin, TellsRebuild, TellsTotals};
 ghost use Rattle.slotted_graph.specs.Extension.{ExtendsTo};
 
@@ -57,6 +57,6 @@ impl<L: Language, N: Analysis<L>> EGraph<L, N> {
 /// Proves that the totals over all rebuilds rise by a call that extends a graph and only lowers data. The total of
 /// turns rises by no more than that of bounds, until the latter is the largest number.
 pub fn totals_rise<L: Language, N: Analysis<L>>()
-    ensures { (g h : Graph) (t u : ℕ × ℕ) → ExtendsTo g h → LowersData N.codes N.meaning g h
+    ensures { (given : List (ℕ × N.Data)) (g h : Graph) (t u : ℕ × ℕ) → ExtendsTo g h → LowersDataWith given N.codes N.meaning g h
         → TellsTotals N.codes g t → TellsTotals N.codes h u → RiseWithin t u }
 {}
