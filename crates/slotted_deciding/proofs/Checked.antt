@@ -19,8 +19,9 @@ use Rattle.slotted_graph.specs.States.{IsGraph}
 use Rattle.slotted_graph.proofs.Insides.{given}
 use Rattle.std.specs.Coded.{Coded}
 use Rattle.slotted_analyses.specs.Meaning.{IsMergeOf, Meaning}
+use Rattle.slotted_graph.proofs.Saying.{lowers-same}
 use Rattle.slotted_deciding.specs.Steps.{GoesTo, LeadsTo}
-use Rattle.slotted_deciding.proofs.Growing.{goes-itself, leads-with, lowers-same}
+use Rattle.slotted_deciding.proofs.Growing.{goes-itself, leads-with}
 
 -- an entry by a step is asserted by none of the four steps
 not-asserted : (nodes : List DTerm) (e : Sides) (s : Step) (proofs : List ProofEntry) → ¬ (s ≡ explicit) → asserted nodes (proofs ++ entry_of (entry_by e s) ∷ []) ≡ asserted nodes proofs
@@ -65,7 +66,7 @@ goes-checked g h e s p is fits accepts rests = elim accepts.grows [
 -- and data of the analysis stays
 pub leads-checked : {N D : Type 0} (codes : Coded N × Coded D) (meaning : N → Meaning D) (law : (n : N) → IsMergeOf (meaning n)) (g h : Graph) (e : Sides) (s : Step) (p : ℕ) → IsGraph g → Fits g.image e s → Accepts g h (entry_by e s) p → IsTrue h.failed ⊎ IsGraph h →
     LeadsTo codes meaning g h
-leads-checked codes meaning law g h e s p is fits accepts rests = leads-with codes meaning g h (goes-checked g h e s p is fits accepts rests) (lowers-same codes meaning law g h found part)
+leads-checked codes meaning law g h e s p is fits accepts rests = leads-with codes meaning g h (goes-checked g h e s p is fits accepts rests) (lowers-same codes meaning law g h (goes-checked g h e s p is fits accepts rests).extends.canonical found part)
   where
     found : h.image.found ≡ g.image.found
     found = elim accepts.grows [ inl q ↦ ap (λ (x : Graph). x.image.found) q.1 | inr q ↦ ap (λ (x : Graph). x.image.found) q.2 ]

@@ -1,8 +1,7 @@
 -- What stays as slots are taken, and as entries are added.
 use Rattle.std.proofs.Common.{◌≡◌, ◌<◌, ◌∙◌, ℕ, length, ap, refl, subst, sym}
 use Rattle.std.specs.Coded.{Coded}
-use Rattle.std.specs.Prelude.{All, List, [], Result, Ok, Err, OnOk, Some, slice_get, slice_index_or}
-use Rattle.slotted_model.specs.Applied.{Applied}
+use Rattle.std.specs.Prelude.{All, Result, Ok, Err, OnOk}
 use Rattle.slotted_slots.specs.Table.{KnowsMore, Table}
 use Rattle.slotted_nodes.specs.Form.{Form}
 use Rattle.slotted_model.specs.Classes.{IsFull}
@@ -22,7 +21,7 @@ use Rattle.slotted_deciding.specs.Equality.{EqualUpTo, IsDecidedGraph, IsTwist}
 use Rattle.slotted_deciding.specs.Settling.{ClassIsSettled, IsLookedUpAs, child_at, with_child_at}
 use Rattle.slotted_analyses.specs.Meaning.{IsMergeOf, Meaning}
 use Rattle.slotted_graph.specs.Analysed.{LowersData}
-use Rattle.slotted_graph.proofs.Saying.{lowers-itself, lowers-then}
+use Rattle.slotted_graph.proofs.Saying.{lowers-itself, lowers-same, lowers-then}
 use Rattle.slotted_deciding.specs.Steps.{GoesTo, LeadsTo}
 use Rattle.slotted_deciding.proofs.Settled.{settled-decided}
 
@@ -117,21 +116,6 @@ on_ok_by (Err e) f p = tt
 pub goes-explained : (g h : Graph) → IsGraph h → KeepsClasses g h → AddsTerms g.image h.image → GoesTo g h
 goes-explained g h is keeps adds = goes-adds g h is adds (subst (λ (t : Table). KnowsMore g.table t) (sym keeps.table) (λ s k. k))
 
--- where what is kept stays, and what classes find does, no data has changed
-pub lowers-same : {N D : Type 0} (codes : Coded N × Coded D) (meaning : N → Meaning D) (law : (n : N) → IsMergeOf (meaning n)) (g h : Graph) → h.image.found ≡ g.image.found → h.part ≡ g.part → LowersData codes meaning g h
-lowers-same codes meaning law g h found part p keeps =
-    let l = lowers-itself codes meaning law g p keeps in
-    record {
-      newer = l.newer;
-      after = part ∙ l.after;
-      analysis = l.analysis;
-      rounds = l.rounds;
-      counts = l.counts;
-      falls = λ i within x has.
-          let f = l.falls i within x has in
-          (f.0, subst (λ (e : List Applied). slice_get l.newer.values (slice_index_or e i (0, [])).0 ≡ Some f.0) (sym found) f.1, f.2);
-    }
-
 module _ {N D : Type 0} (codes : Coded N × Coded D) (meaning : N → Meaning D) where
   pub leads-goes : (g h : Graph) → LeadsTo codes meaning g h → GoesTo g h
   leads-goes g h l = record { graph = l.graph; extends = l.extends; asserted = l.asserted }
@@ -141,7 +125,7 @@ module _ {N D : Type 0} (codes : Coded N × Coded D) (meaning : N → Meaning D)
 
   module _ (law : (n : N) → IsMergeOf (meaning n)) where
     pub leads-takes : (g h : Graph) → IsGraph g → OnlyTakesSlots g h → LeadsTo codes meaning g h
-    leads-takes g h is takes = leads-with g h (goes-takes g h is takes) (lowers-same codes meaning law g h (ap (λ (x : Image). x.found) takes.reads.image) takes.reads.part)
+    leads-takes g h is takes = leads-with g h (goes-takes g h is takes) (lowers-same codes meaning law g h (goes-takes g h is takes).extends.canonical (ap (λ (x : Image). x.found) takes.reads.image) takes.reads.part)
 
     pub leads-then : (f g h : Graph) → LeadsTo codes meaning f g → LeadsTo codes meaning g h → LeadsTo codes meaning f h
     leads-then f g h d e = leads-with f h (goes-then f g h (leads-goes f g d) (leads-goes g h e)) (lowers-then codes meaning law f g h d.extends d.lowers e.lowers)

@@ -2,7 +2,8 @@ use Rattle.std.proofs.Common.{inr}
 use Rattle.std.proofs.lemmas.Bool.{false≢true}
 use Rattle.slotted_proofs.specs.Equations.{to_applied}
 use Rattle.slotted_graph.proofs.Insides.{given}
-use Rattle.slotted_deciding.proofs.Growing.{goes-explained, leads-with, lowers-same}
+use Rattle.slotted_graph.proofs.Saying.{lowers-same}
+use Rattle.slotted_deciding.proofs.Growing.{goes-explained, leads-with}
 use Rattle.slotted_deciding.proofs.Unions.{good-graph, said-full}
 use Rattle.slotted_deciding.proofs.stepping.explained.Goals as goal
 
@@ -19,4 +20,5 @@ returns-clause-goes g c =
     let h = c.explain_ids.new.self in
     let is = good-graph h (λ bad. false≢true (c.in_ok-proof.ensures.fails.0 bad).0) c.is_failed.ensures.rests in
     let kept = given is.well c.in_ok-proof.ensures.kept in
-    leads-with g.N.Analysis.codes g.N.Analysis.meaning c.args.graph.now h (goes-explained c.args.graph.now h is kept (given is.well c.in_ok-proof.ensures.adds)) (lowers-same g.N.Analysis.codes g.N.Analysis.meaning g.met.N.Analysis.is_merge c.args.graph.now h kept.found kept.part)
+    let goes = goes-explained c.args.graph.now h is kept (given is.well c.in_ok-proof.ensures.adds) in
+    leads-with g.N.Analysis.codes g.N.Analysis.meaning c.args.graph.now h goes (lowers-same g.N.Analysis.codes g.N.Analysis.meaning g.met.N.Analysis.is_merge c.args.graph.now h goes.extends.canonical kept.found kept.part)
