@@ -1,17 +1,17 @@
 -- What the analysis keeps is carried along by one call after another.
-use Rattle.std.proofs.Common.{◌≡◌, ◌∙◌, ℕ, List, refl, sym, subst, inl, inr}
-use Rattle.std.specs.Prelude.{◌⊎◌, Err, false, IsErr, IsTrue, Ok, OnOk, Result, Some, slice_get}
+use Rattle.std.proofs.Common.{◌≡◌, ◌∙◌, ℕ, List, ap, refl, sym, subst, inl, inr}
+use Rattle.std.specs.Prelude.{◌⊎◌, Err, false, IsErr, IsTrue, Ok, OnOk, Result}
 use Rattle.std.specs.Coded.{Coded}
 use Rattle.std.proofs.lemmas.Bool.{false≢true}
+use Rattle.slotted_model.specs.Growth.{Extends}
 use Rattle.slotted_analyses.specs.Meaning.{IsMergeOf, Meaning}
 use Rattle.slotted_data.specs.Part.{NotesChanges, Part, part_code}
-use Rattle.slotted_operations.specs.Causes.{class_found}
 use Rattle.slotted_graph.specs.Analysed.{CarriesData, KeepsPart, LowersData}
 use Rattle.slotted_graph.specs.Extension.{ExtendsTo}
 use Rattle.slotted_graph.specs.Graph.{Graph, OnlyTakesSlots}
 use Rattle.slotted_graph.specs.Image.{Image}
-use Rattle.slotted_graph.proofs.Extending.{extends-takes, extends-then}
-use Rattle.slotted_graph.proofs.Saying.{carried-lowers, lowers-itself, lowers-then}
+use Rattle.slotted_graph.proofs.Extending.{extends-itself, extends-takes, extends-then}
+use Rattle.slotted_graph.proofs.Saying.{carried-lowers, lowers-same, lowers-then}
 use Rattle.slotted_rules.specs.Carried.{CarriesAlong, CarriesIf}
 
 notes-itself : {D : Type 0} (values : List D) (changed : List ℕ) → NotesChanges values changed values changed
@@ -47,18 +47,7 @@ module _ {N D : Type 0} (codes : Coded N × Coded D) (meaning : N → Meaning D)
     -- what is kept stays
     pub carries-same : (g h : Graph) → h.image ≡ g.image → h.part ≡ g.part → CarriesIf P codes meaning g h
     carries-same g h image part = record {
-      lowers = λ p keeps.
-          let l = lowers-itself codes meaning law g p keeps in
-          record {
-            newer = l.newer;
-            after = part ∙ l.after;
-            analysis = l.analysis;
-            rounds = l.rounds;
-            counts = l.counts;
-            falls = λ i within x has.
-                let f = l.falls i within x has in
-                (f.0, subst (λ (m : Image). slice_get l.newer.values (class_found m i) ≡ Some f.0) (sym image) f.1, f.2);
-          };
+      lowers = lowers-same codes meaning law g h (subst (λ (m : Image). Extends g.image.canonical m.canonical) (sym image) (extends-itself g).canonical) (ap (λ (m : Image). m.found) image) part;
       notes = λ p older newer before after d.
           subst (λ (q : Part N D). NotesChanges older.values older.changed q.values q.changed) (same-part g older newer before (sym part ∙ after)) (notes-itself older.values older.changed);
     }

@@ -54,6 +54,28 @@ loop-self-preserved g c =
       lowers = not-failed-so c.turn.new.self.egraph.failed well (later-lowers g.N.Analysis.codes g.N.Analysis.meaning g.met.N.Analysis.is_merge c.args.self.now.egraph c.loop-self.self.egraph c.turn.new.self.egraph c.loop-self.invariant.so_far.extends c.loop-self.invariant.lowers c.turn.ensures.lowers);
     }
 
+pub loop-self-preserved-in_ok-push : goal.loop-self-preserved-in_ok-push
+loop-self-preserved-in_ok-push g c =
+    let well : c.turn.new.self.egraph.failed ≡ false = ok-well _ c.turn.new.self.egraph.failed c.turn.result c.in_ok-turn.turn c.in_ok-turn.was c.turn.ensures.fails in
+    record {
+      so_far = taken-stored g.K.Clock.tells (RulesOnce g.Q.RewriteT.searches g.Q.RewriteT.applies (AreModified g.N.Analysis.codes g.N.Analysis.meaning g.N.Analysis.may_ask g.N.Analysis.modifies) c.args.rules.now) (Calls g.H.Hook.leaves) (measures g.D.IterationData.made) c.args.start
+          (parts_of c.args.self.now) (parts_of c.loop-self.self) (parts_of c.turn.new.self) c.loop-self.invariant.so_far (ap (option_map stop_of) (none-of c.loop-self.self.stop_reason c.is_none.result c.is_none.ensures c.loop-self-test.true))
+          c.turn.ensures.rest c.loop-self.self.iterations.items c.turn.new.self.iterations.items c.push.new.self.items c.in_ok-turn.turn.kept c.in_ok-turn.turn.stop refl refl c.in_ok-push.ensures.items c.in_ok-turn.ensures.ok well
+          (not-failed-so {P = ExtendsTo c.loop-self.self.egraph c.turn.new.self.egraph} c.turn.new.self.egraph.failed well c.turn.ensures.extends);
+      lowers = not-failed-so c.turn.new.self.egraph.failed well (later-lowers g.N.Analysis.codes g.N.Analysis.meaning g.met.N.Analysis.is_merge c.args.self.now.egraph c.loop-self.self.egraph c.turn.new.self.egraph c.loop-self.invariant.so_far.extends c.loop-self.invariant.lowers c.turn.ensures.lowers);
+    }
+
+pub loop-self-preserved-in_ok-push-2 : goal.loop-self-preserved-in_ok-push-2
+loop-self-preserved-in_ok-push-2 g c =
+    let well : c.turn.new.self.egraph.failed ≡ false = ok-well _ c.turn.new.self.egraph.failed c.turn.result c.in_ok-turn.turn c.in_ok-turn.was c.turn.ensures.fails in
+    record {
+      so_far = taken-stored g.K.Clock.tells (RulesOnce g.Q.RewriteT.searches g.Q.RewriteT.applies (AreModified g.N.Analysis.codes g.N.Analysis.meaning g.N.Analysis.may_ask g.N.Analysis.modifies) c.args.rules.now) (Calls g.H.Hook.leaves) (measures g.D.IterationData.made) c.args.start
+          (parts_of c.args.self.now) (parts_of c.loop-self.self) (parts_of c.turn.new.self) c.loop-self.invariant.so_far (ap (option_map stop_of) (none-of c.loop-self.self.stop_reason c.is_none.result c.is_none.ensures c.loop-self-test.true))
+          c.turn.ensures.rest c.loop-self.self.iterations.items c.turn.new.self.iterations.items c.push.new.self.items c.in_ok-turn.turn.kept c.in_ok-turn.turn.stop refl refl c.in_ok-push.ensures.items c.in_ok-turn.ensures.ok well
+          (not-failed-so {P = ExtendsTo c.loop-self.self.egraph c.turn.new.self.egraph} c.turn.new.self.egraph.failed well c.turn.ensures.extends);
+      lowers = not-failed-so c.turn.new.self.egraph.failed well (later-lowers g.N.Analysis.codes g.N.Analysis.meaning g.met.N.Analysis.is_merge c.args.self.now.egraph c.loop-self.self.egraph c.turn.new.self.egraph c.loop-self.invariant.so_far.extends c.loop-self.invariant.lowers c.turn.ensures.lowers);
+    }
+
 pub returns-in_err-turn-clause-refused : goal.returns-in_err-turn-clause-refused
 returns-in_err-turn-clause-refused g c =
     let refuses = RefusesTurn (RefusesRules g.Q.RewriteT.searches g.Q.RewriteT.gives_up g.Q.RewriteT.applies g.Q.RewriteT.breaks_off c.args.rules.now) (RulesOnce g.Q.RewriteT.searches g.Q.RewriteT.applies (AreModified g.N.Analysis.codes g.N.Analysis.meaning g.N.Analysis.may_ask g.N.Analysis.modifies) c.args.rules.now) g.H.Hook.gives_up (Calls g.H.Hook.leaves) g.D.IterationData.refuses in
