@@ -5,8 +5,9 @@ use Rattle.std.specs.List.{prefix_len}
 use Rattle.std.specs.Char.{is_whitespace}
 use Rattle.std.specs.Str.{encode_utf8_all}
 use Rattle.std.proofs.lemmas.List.{map_push}
-use Rattle.slotted_slots.specs.Syntax.{Lexeme, lexeme_of}
-use Rattle.slotted_slots.specs.declared.parse.Token.{Token}
+use Rattle.slotted_slots.specs.Syntax.{Lexeme}
+use Rattle.slotted_patterns.specs.LentTokens.{lexeme}
+use Rattle.slotted_patterns.specs.declared.tokens.LentToken.{LentToken}
 use Rattle.slotted_slots.specs.Table.{Table, NamedOutcome, gives, too_large, no_place, named_of}
 use Rattle.slotted_patterns.specs.Tokens.{Next, nothing, token, refused, bracket_of, bracket_or, is_of_run, is_colon_equals, run, after_run, after_white_space, variable_token, named_token, slot_token, sign_or_word, token_at, next_token, BeginsWith}
 
@@ -79,9 +80,9 @@ BeginsWith-push t cs [] rest u l after v h e = (after, v, ap (λ x. next_token t
 BeginsWith-push t cs (m ∷ ms) rest u l after v h e = (h.0, h.1, h.2, BeginsWith-push h.1 h.0 ms rest u l after v h.3 e)
 
 -- one more token was pushed
-pub BeginsWith-pushed : (t : Table) (cs : List ℕ) (tokens pushed : List Token) (rest : List ℕ) (u : Table) (x : Token) (after : List ℕ) (v : Table) → BeginsWith t cs (map lexeme_of tokens) rest u → next_token u rest ≡ token (lexeme_of x) after v → pushed ≡ tokens ++ x ∷ [] → BeginsWith t cs (map lexeme_of pushed) after v
+pub BeginsWith-pushed : (t : Table) (cs : List ℕ) (tokens pushed : List LentToken) (rest : List ℕ) (u : Table) (x : LentToken) (after : List ℕ) (v : Table) → BeginsWith t cs (map lexeme tokens) rest u → next_token u rest ≡ token (lexeme x) after v → pushed ≡ tokens ++ x ∷ [] → BeginsWith t cs (map lexeme pushed) after v
 BeginsWith-pushed t cs tokens pushed rest u x after v h e p =
-    subst (λ ls. BeginsWith t cs ls after v) (sym (ap (map lexeme_of) p ∙ map_push lexeme_of tokens x)) (BeginsWith-push t cs (map lexeme_of tokens) rest u (lexeme_of x) after v h e)
+    subst (λ ls. BeginsWith t cs ls after v) (sym (ap (map lexeme) p ∙ map_push lexeme tokens x)) (BeginsWith-push t cs (map lexeme tokens) rest u (lexeme x) after v h e)
 
 -- what comes after the tokens: nothing more, or a refusal
 abbrev pub IsEnd : Next → Type 0

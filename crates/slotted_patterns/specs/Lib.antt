@@ -8,6 +8,7 @@ pub mod Grammar
 pub mod Outcome
 pub mod Parsed
 pub mod Tokens
+pub mod LentTokens
 pub mod Stack
 pub mod Reader
 pub mod Known

@@ -7,6 +7,6 @@ pub mod parse;
 pub mod pattern;
 pub mod read_again;
 pub mod show;
-mod tokens;
+pub mod tokens;
 
 pub use pattern::Pattern;

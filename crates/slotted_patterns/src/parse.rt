@@ -1,14 +1,15 @@
 //! Patterns from their texts.
-ghost use Rattle.std.specs.Prelude.{IfOk};
+ghost use Rattle.std.specs.Prelude.{map, IfOk};
 ghost use Rattle.slotted_slots.specs.Table.{KnowsMore};
 ghost use Rattle.slotted_patterns.specs.Outcome.{Answers};
 ghost use Rattle.slotted_patterns.specs.View.{tree_of};
 ghost use Rattle.slotted_patterns.specs.Known.{HasKnownNames};
-ghost use Rattle.slotted_patterns.specs.Parsed.{TextReadsPattern, ReadsOneWay, ReadsSomeWay};
+ghost use Rattle.slotted_patterns.specs.LentTokens.{lexeme};
+ghost use Rattle.slotted_patterns.specs.Parsed.{TextReadsPattern, TokensRead, ReadsOneWay, ReadsSomeWay};
 
 use crate::grammar::parse_tokens;
 use crate::pattern::Pattern;
-use crate::tokens::tokenize;
+use crate::tokens::{LentToken, chars_of, owned_tokens, tokenize};
 use slotted_languages::language::Language;
 use slotted_slots::{Error, SlotTable};
 use std::alloc::Global;
@@ -26,9 +27,18 @@ impl<L: Language> Pattern<L> {
         ensures known { IfOk result (λ p. HasKnownNames table.new (tree_of L.form p)) }
         ensures more { KnowsMore table.old table.new }
     {
-        let tokens = tokenize(alloc, text, table)?;
-        parse_tokens(alloc, tokens)
+        let chars = chars_of(alloc, text)?;
+        let tokens = tokenize(alloc, &chars, table)?;
+        parse_lent(alloc, &tokens)
     }
+}
+
+/// Returns the pattern that tokens write.
+pub fn parse_lent<L: Language>(alloc: Global, tokens: &[LentToken<'_>]) -> Result<Pattern<L>, Error>
+    ensures { Answers (tree_of L.form) (TokensRead L.read (map lexeme tokens.now)) result }
+{
+    let tokens = owned_tokens(alloc, tokens)?;
+    parse_tokens(alloc, tokens)
 }
 
 /// Proves that each text is read in one way: the language, the table and the characters determine the outcome and the

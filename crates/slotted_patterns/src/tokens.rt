@@ -5,12 +5,38 @@ ghost use Rattle.std.specs.List.{prefix_len};
 ghost use Rattle.std.specs.Str.{chars};
 ghost use Rattle.slotted_slots.specs.Error.{IsOutOfMemory};
 ghost use Rattle.slotted_slots.specs.Syntax.{lexeme_of};
+ghost use Rattle.slotted_patterns.specs.LentTokens.{lexeme};
 ghost use Rattle.slotted_slots.specs.Table.{Table, KnowsMore};
 ghost use Rattle.slotted_patterns.specs.Outcome.{Refuses};
 ghost use Rattle.slotted_patterns.specs.Tokens.{bracket_of, is_of_run, is_colon_equals, run, after_run, variable_token, slot_token, sign_or_word, next_token, nothing, token, refused, HasTokens, HasBadToken};
 
 use slotted_slots::{Error, ParseError, SlotTable, Token};
 use std::alloc::Global;
+
+/// A token whose word is lent by the characters in which it stands.
+#[derive(Drop)]
+pub enum LentToken<'a> {
+    /// An operator or a payload.
+    Word(&'a [char]),
+    /// The name of a variable, without its `?`.
+    Variable(&'a [char]),
+    /// A token that is no word.
+    Other(Token),
+}
+
+impl<'a> LentToken<'a> {
+    /// Returns the token with a text of its own.
+    fn owned(&self, alloc: Global) -> Result<Token, Error>
+        ensures ok { IfOk result (λ t. lexeme_of t ≡ lexeme self.now) }
+        ensures memory { IfErr result IsOutOfMemory }
+    {
+        match self {
+            LentToken::Word(word) => Ok(Token::Ident(text_of(alloc, word)?)),
+            LentToken::Variable(name) => Ok(Token::PVar(text_of(alloc, name)?)),
+            LentToken::Other(token) => token.copy(alloc),
+        }
+    }
+}
 
 fn bracket_of(c: char) -> Option<Token>
     ensures { option_map lexeme_of result ≡ bracket_of c }
@@ -44,7 +70,8 @@ fn white_space_len(chars: &[char]) -> usize
     chars.iter().take_while(|c| c.is_whitespace()).count()
 }
 
-fn text_of(alloc: Global, chars: &[char]) -> Result<String, Error>
+/// Returns the text of these characters.
+pub fn text_of(alloc: Global, chars: &[char]) -> Result<String, Error>
     ensures ok { IfOk result (λ text. string_bytes text ≡ encode_utf8_all chars.now) }
     ensures memory { IfErr result IsOutOfMemory }
 {
@@ -53,9 +80,12 @@ fn text_of(alloc: Global, chars: &[char]) -> Result<String, Error>
 }
 
 /// Returns the token of a variable after its `?`, and what follows.
-fn variable_token<'a>(alloc: Global, chars: &'a [char]) -> Result<(Token, &'a [char]), Error>
+fn variable_token<'a>(
+    alloc: Global,
+    chars: &'a [char],
+) -> Result<(LentToken<'a>, &'a [char]), Error>
     ensures ok { IfOk result
-        (λ p. (t : Table) → variable_token t (run chars.now) (after_run chars.now) ≡ token (lexeme_of p.0) p.1.now t) }
+        (λ p. (t : Table) → variable_token t (run chars.now) (after_run chars.now) ≡ token (lexeme p.0) p.1.now t) }
     ensures none { IfErr result (Refuses
         (λ o. (t : Table) → variable_token t (run chars.now) (after_run chars.now) ≡ refused o)) }
 {
@@ -64,7 +94,7 @@ fn variable_token<'a>(alloc: Global, chars: &'a [char]) -> Result<(Token, &'a [c
         let rest = text_of(alloc, rest)?;
         return Err(Error::Parse(ParseError::TokenState(rest)));
     }
-    Ok((Token::PVar(text_of(alloc, name)?), rest))
+    Ok((LentToken::Variable(name), rest))
 }
 
 /// Returns the token of a slot after its `$`, and what follows.
@@ -72,9 +102,9 @@ fn slot_token<'a>(
     alloc: Global,
     chars: &'a [char],
     table: &mut SlotTable,
-) -> Result<(Token, &'a [char]), Error>
+) -> Result<(LentToken<'a>, &'a [char]), Error>
     ensures ok { IfOk result
-        (λ p. slot_token table.old (run chars.now) (after_run chars.now) ≡ token (lexeme_of p.0) p.1.now table.new) }
+        (λ p. slot_token table.old (run chars.now) (after_run chars.now) ≡ token (lexeme p.0) p.1.now table.new) }
     ensures none { IfErr result (Refuses
         (λ o. slot_token table.old (run chars.now) (after_run chars.now) ≡ refused o)) }
     ensures err { OnErr result (table.new ≡ table.old) }
@@ -87,7 +117,7 @@ fn slot_token<'a>(
     }
     let name = text_of(alloc, name)?;
     let slot = table.named(&name)?;
-    Ok((Token::Slot(slot), rest))
+    Ok((LentToken::Other(Token::Slot(slot)), rest))
 }
 
 fn is_colon_equals(first: char, rest: &[char]) -> bool
@@ -104,16 +134,16 @@ fn sign_or_word<'a>(
     first: char,
     rest: &'a [char],
     table: &mut SlotTable,
-) -> Result<(Token, &'a [char]), Error>
+) -> Result<(LentToken<'a>, &'a [char]), Error>
     requires { chars.now ≡ first ∷ rest.now }
     ensures ok { IfOk result
-        (λ p. sign_or_word table.old first rest.now ≡ token (lexeme_of p.0) p.1.now table.new) }
+        (λ p. sign_or_word table.old first rest.now ≡ token (lexeme p.0) p.1.now table.new) }
     ensures none { IfErr result (Refuses (λ o. sign_or_word table.old first rest.now ≡ refused o)) }
     ensures err { OnErr result (table.new ≡ table.old) }
     ensures more { KnowsMore table.old table.new }
 {
     if is_colon_equals(first, rest) {
-        return Ok((Token::ColonEquals, &rest[1..]));
+        return Ok((LentToken::Other(Token::ColonEquals), &rest[1..]));
     }
     if first == '?' {
         return variable_token(alloc, rest);
@@ -122,7 +152,7 @@ fn sign_or_word<'a>(
         return slot_token(alloc, rest, table);
     }
     let (word, rest) = chars.split_at(run_len(chars));
-    Ok((Token::Ident(text_of(alloc, word)?), rest))
+    Ok((LentToken::Word(word), rest))
 }
 
 /// Returns the token at the front of a text with what follows it, or `None` if only white space is left.
@@ -131,10 +161,10 @@ fn next_token<'a>(
     alloc: Global,
     chars: &'a [char],
     table: &mut SlotTable,
-) -> Result<Option<(Token, &'a [char])>, Error>
+) -> Result<Option<(LentToken<'a>, &'a [char])>, Error>
     ensures ok { IfOk result (λ found. MatchOption found
         ((next_token table.old chars.now ≡ nothing) × (table.new ≡ table.old))
-        (λ p. next_token table.old chars.now ≡ token (lexeme_of p.0) p.1.now table.new)) }
+        (λ p. next_token table.old chars.now ≡ token (lexeme p.0) p.1.now table.new)) }
     ensures none { IfErr result (Refuses (λ o. next_token table.old chars.now ≡ refused o)) }
     ensures err { OnErr result (table.new ≡ table.old) }
     ensures more { KnowsMore table.old table.new }
@@ -145,26 +175,24 @@ fn next_token<'a>(
     }
     let rest = &chars[1..];
     if let Some(bracket) = bracket_of(chars[0]) {
-        return Ok(Some((bracket, rest)));
+        return Ok(Some((LentToken::Other(bracket), rest)));
     }
     let found = sign_or_word(alloc, chars, chars[0], rest, table)?;
     Ok(Some(found))
 }
 
 /// Returns the tokens of a text. On an error the table keeps the names that stand before the token.
-pub(crate) fn tokenize(
+pub fn tokenize<'a>(
     alloc: Global,
-    text: &str,
+    chars: &'a [char],
     table: &mut SlotTable,
-) -> Result<Vec<Token>, Error>
-    ensures ok { IfOk result
-        (λ tokens. HasTokens table.old (chars text.now) (map lexeme_of tokens.items) table.new) }
-    ensures none { IfErr result (Refuses (λ o. HasBadToken table.old (chars text.now) o table.new)) }
+) -> Result<Vec<LentToken<'a>>, Error>
+    ensures ok { IfOk result (λ tokens. HasTokens table.old chars.now (map lexeme tokens.items) table.new) }
+    ensures none { IfErr result (Refuses (λ o. HasBadToken table.old chars.now o table.new)) }
     ensures more { KnowsMore table.old table.new }
 {
-    let chars = chars_of(alloc, text)?;
     let mut tokens = Vec::with_capacity(alloc, chars.len() / 2)?;
-    let mut rest = chars.as_slice();
+    let mut rest = chars;
     while let Some((token, after)) = next_token(alloc, rest, table)? {
         tokens.push(token)?;
         rest = after;
@@ -172,11 +200,24 @@ pub(crate) fn tokenize(
     Ok(tokens)
 }
 
-fn chars_of(alloc: Global, text: &str) -> Result<Vec<char>, Error>
+/// Returns the characters of a text.
+pub fn chars_of(alloc: Global, text: &str) -> Result<Vec<char>, Error>
     ensures ok { IfOk result (λ v. v.items ≡ chars text.now) }
     ensures memory { IfErr result IsOutOfMemory }
 {
     let mut chars = Vec::with_capacity(alloc, text.len())?;
     chars.extend(text.chars())?;
     Ok(chars)
+}
+
+/// Returns the tokens with texts of their own.
+pub fn owned_tokens(alloc: Global, tokens: &[LentToken<'_>]) -> Result<Vec<Token>, Error>
+    ensures ok { IfOk result (λ v. map lexeme_of v.items ≡ map lexeme tokens.now) }
+    ensures memory { IfErr result IsOutOfMemory }
+{
+    let mut owned = Vec::with_capacity(alloc, tokens.len())?;
+    for token in tokens {
+        owned.push(token.owned(alloc)?)?;
+    }
+    Ok(owned)
 }
