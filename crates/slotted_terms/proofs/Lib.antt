@@ -12,4 +12,5 @@ pub mod TermFolds
 pub mod PairLists
 pub mod ValidTexts
 pub mod TermReadings
+pub mod ReaderSteps
 pub mod TermsReadAgain

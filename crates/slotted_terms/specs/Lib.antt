@@ -8,3 +8,4 @@ pub mod Parsed
 pub mod Valid
 pub mod Shown
 pub mod ReadAgain
+pub mod Reader

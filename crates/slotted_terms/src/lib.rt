@@ -6,6 +6,7 @@ pub mod flat;
 pub mod parse;
 pub mod patterns;
 pub mod read_again;
+mod reader;
 
 pub use expr::RecExpr;
 pub use patterns::{pattern_to_re, re_to_pattern};

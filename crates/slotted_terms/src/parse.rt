@@ -8,9 +8,9 @@ ghost use Rattle.slotted_terms.specs.ReadAgain.{ReadsAsNodes};
 ghost use Rattle.slotted_terms.specs.Valid.{IsValidTerm};
 
 use crate::expr::RecExpr;
-use crate::patterns::into_term;
+use crate::reader::parse_tokens;
 use slotted_languages::language::Language;
-use slotted_patterns::Pattern;
+use slotted_patterns::tokens::{chars_of, tokenize};
 use slotted_slots::{Error, SlotTable};
 use std::alloc::Global;
 
@@ -32,8 +32,9 @@ impl<L: Language> RecExpr<L> {
 
         ensures more { KnowsMore table.old table.new }
     {
-        let pattern = Pattern::parse(alloc, text, table)?;
-        into_term(alloc, pattern)
+        let chars = chars_of(alloc, text)?;
+        let tokens = tokenize(alloc, &chars, table)?;
+        parse_tokens(alloc, &tokens)
     }
 }
 
