@@ -1,20 +1,27 @@
 -- A text reads as a term in just one way, since it reads as a pattern in just one way.
-use Rattle.std.proofs.Common.{◌≡◌, ℕ, List, subst, ap}
-use Rattle.std.specs.Prelude.{Option, Some, Result, Ok, Err, IfOk, IfErr}
+use Rattle.std.proofs.Common.{◌≡◌, ℕ, List, sym, subst, ap}
+use Rattle.std.specs.Prelude.{Option, Some, Result, Ok, Err, IfOk, IfErr, IfSome}
 use Rattle.slotted_theory.specs.Term.{Term}
-use Rattle.slotted_slots.specs.Syntax.{Element}
+use Rattle.slotted_slots.specs.Syntax.{Lexeme, Element}
 use Rattle.slotted_slots.specs.Table.{Table}
 use Rattle.slotted_slots.specs.declared.error.Error.{Error}
 use Rattle.slotted_slots.specs.declared.error.Error.TheVariants.{OutOfMemory, OutOfSlots, Failed, Parse, NotATerm, SubstInSearch, MissingVariable, NotEqual, BadStep, UnknownClass, NumberTooLarge}
 use Rattle.slotted_nodes.specs.Form.{Form}
+use Rattle.slotted_nodes.specs.ReadFrom.{IsReadFrom}
 use Rattle.slotted_patterns.specs.Tree.{PatternTree}
 use Rattle.slotted_patterns.specs.Outcome.{parsed, Refuses, Answers}
-use Rattle.slotted_patterns.specs.Parsed.{PatternReads}
+use Rattle.slotted_patterns.specs.View.{tree_of}
+use Rattle.slotted_patterns.specs.Tokens.{HasTokens}
+use Rattle.slotted_patterns.specs.Parsed.{PatternReads, by_tokens}
 use Rattle.slotted_patterns.specs.Known.{HasKnownNames}
 use Rattle.slotted_terms.specs.Valid.{IsValidTerm}
 use Rattle.slotted_terms.proofs.ValidTexts.{term_valid}
 use Rattle.slotted_patterns.proofs.OneReading as unique
 use Rattle.slotted_patterns.proofs.SomeReading as total
+use Rattle.slotted_patterns.proofs.Refusals.{Refuses-weaker}
+use Rattle.slotted_patterns.proofs.KnownPatterns.{answer_known}
+use Rattle.slotted_terms.specs.Reader.{IsReadAs, ReadAsTerm}
+use Rattle.slotted_terms.specs.ReadAgain.{ReadsAsNodes}
 use Rattle.slotted_terms.specs.AsTerm.{as_term, IsRefusal}
 use Rattle.slotted_terms.specs.Parsed.{TermOutcome, TextReads, as_pattern, term_outcome, term_or_none}
 
@@ -70,3 +77,18 @@ module _ (read : List Element → Option Form) (t : Table) (cs : List ℕ) (u : 
 pub answer_valid : (u : Table) (p : PatternTree) (r : Result Term Error) → HasKnownNames u p → IfOk r (λ x. as_term p ≡ Some x) → IfOk r (IsValidTerm u)
 answer_valid u p (Ok x) h e = term_valid u p x h e
 answer_valid u p (Err e) h n = tt
+
+-- tokens of a text, and what they read as
+module _ {L : Type 0} (form : L → Form) (read : List Element → Option Form) (t : Table) (cs : List ℕ) (u : Table) (ls : List Lexeme) (tokens : HasTokens t cs ls u) where
+  pub answers_tokens : (r : Result Term Error) → IfOk r (IsReadAs form read ls) → IfErr r (Refuses (ReadAsTerm read ls)) → Answers (λ x. x) (λ o. TextReads read t cs o u) r
+  answers_tokens (Ok x) h k = reads_term read t cs u (tree_of form h.nodes) x (by_tokens tokens h.reads) h.term
+  answers_tokens (Err e) h k =
+      Refuses-weaker (ReadAsTerm read ls) (λ o. TextReads read t cs o u) e k (λ o q. subst (λ o. TextReads read t cs o u) (sym q.2) (as_pattern (by_tokens tokens q.1)))
+
+  pub valid_tokens : ((es : List Element) → IfSome (read es) (IsReadFrom es)) → (r : Result Term Error) → IfOk r (IsReadAs form read ls) → IfOk r (IsValidTerm u)
+  valid_tokens faithful (Ok x) h = term_valid u (tree_of form h.nodes) x (answer_known form read faithful t cs u (Ok h.nodes) (by_tokens tokens h.reads)) h.term
+  valid_tokens faithful (Err e) h = tt
+
+  pub nodes_tokens : (r : Result Term Error) → IfOk r (IsReadAs form read ls) → IfOk r (λ x. ReadsAsNodes form read t cs x u)
+  nodes_tokens (Ok x) h = record { nodes = h.nodes; reads = by_tokens tokens h.reads; term = h.term }
+  nodes_tokens (Err e) h = tt
