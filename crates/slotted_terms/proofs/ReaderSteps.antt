@@ -1,6 +1,6 @@
 -- The steps of the reader of terms: its lists stand for open parts of a pattern, and read on as these do.
-use Rattle.std.proofs.Common.{◌≡◌, ℕ, suc, ◌+◌, ◌-◌, ◌<◌, ◌≤◌, Bool, true, false, List, [], ◌∷◌, ◌++◌, length, take, drop, get_or, refl, sym, subst, ap, ◌∙◌, arith, append_assoc, append-nil, length-append, true≢false}
-use Rattle.std.specs.Prelude.{Option, Some, None, map, reverse, ◌==◌, if◌then◌else◌, IfSome, IfOk, OnOk, Result, Ok, Err}
+use Rattle.std.proofs.Common.{◌≡◌, ℕ, ◌+◌, ◌-◌, ◌<◌, ◌≤◌, Bool, true, false, List, [], ◌∷◌, ◌++◌, length, take, drop, get_or, refl, sym, subst, ap, ◌∙◌, arith, append_assoc, append-nil, true≢false}
+use Rattle.std.specs.Prelude.{Option, Some, None, map, reverse, ◌==◌, IfSome, IfOk, OnOk, Result, Ok, Err}
 use Rattle.slotted_slots.specs.declared.error.Error.{Error}
 use Rattle.std.specs.declared.alloc.Global.{Global}
 use Rattle.std.specs.declared.vec.Vec.{Vec}
@@ -12,7 +12,6 @@ use Rattle.slotted_nodes.specs.Form.{Form, children}
 use Rattle.slotted_languages.specs.Filled.{term_of}
 use Rattle.slotted_patterns.specs.Tree.{PatternTree, enode, row_of}
 use Rattle.slotted_patterns.specs.View.{tree_of}
-use Rattle.slotted_patterns.specs.Outcome.{parsed}
 use Rattle.slotted_patterns.specs.Parsed.{TokensRead}
 use Rattle.slotted_patterns.specs.Parsed as parsing
 use Rattle.slotted_patterns.specs.Grammar.{Reading, found, Bracket, joined, built, node, one_text, one_slot, one_child, begins_with_left_bracket, ReadsPattern, no_substitution}

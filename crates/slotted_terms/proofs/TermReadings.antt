@@ -13,7 +13,6 @@ use Rattle.slotted_patterns.specs.Outcome.{parsed, Refuses, Answers}
 use Rattle.slotted_patterns.specs.View.{tree_of}
 use Rattle.slotted_patterns.specs.Tokens.{HasTokens}
 use Rattle.slotted_patterns.specs.Parsed.{PatternReads, by_tokens}
-use Rattle.slotted_patterns.specs.Known.{HasKnownNames}
 use Rattle.slotted_terms.specs.Valid.{IsValidTerm}
 use Rattle.slotted_terms.proofs.ValidTexts.{term_valid}
 use Rattle.slotted_patterns.proofs.OneReading as unique
@@ -22,7 +21,7 @@ use Rattle.slotted_patterns.proofs.Refusals.{Refuses-weaker}
 use Rattle.slotted_patterns.proofs.KnownPatterns.{answer_known}
 use Rattle.slotted_terms.specs.Reader.{IsReadAs, ReadAsTerm}
 use Rattle.slotted_terms.specs.ReadAgain.{ReadsAsNodes}
-use Rattle.slotted_terms.specs.AsTerm.{as_term, IsRefusal}
+use Rattle.slotted_terms.specs.AsTerm.{as_term}
 use Rattle.slotted_terms.specs.Parsed.{TermOutcome, TextReads, as_pattern, term_outcome, term_or_none}
 
 pub one_reading : (read : List Element → Option Form) (t : Table) (cs : List ℕ) (o p : TermOutcome) (u v : Table) → TextReads read t cs o u → TextReads read t cs p v → (o ≡ p) × (u ≡ v)
@@ -53,30 +52,6 @@ module _ (read : List Element → Option Form) (t : Table) (cs : List ℕ) (u : 
   refuses_pattern NotEqual h = h
   refuses_pattern BadStep h = h
   refuses_pattern UnknownClass h = h
-
-  -- a pattern that is no term
-  pub refuses_term : (p : PatternTree) (e : Error) → PatternReads read t cs (parsed p) u → IsRefusal (as_term p) e → Refuses (λ o. TextReads read t cs o u) e
-  refuses_term p (Parse q) h k = absurd k
-  refuses_term p NotATerm h k = (tt, subst (λ o. TextReads read t cs (term_or_none o) u) k (as_pattern h))
-  refuses_term p NumberTooLarge h k = absurd k
-  refuses_term p OutOfSlots h k = absurd k
-  refuses_term p OutOfMemory h k = tt
-  refuses_term p Failed h k = k
-  refuses_term p SubstInSearch h k = k
-  refuses_term p (MissingVariable v) h k = k
-  refuses_term p NotEqual h k = k
-  refuses_term p BadStep h k = k
-  refuses_term p UnknownClass h k = k
-
-  -- the answer for a text that is a pattern
-  pub answers_term : (p : PatternTree) (r : Result Term Error) → PatternReads read t cs (parsed p) u → IfOk r (λ x. as_term p ≡ Some x) → IfErr r (IsRefusal (as_term p)) → Answers (λ t. t) (λ o. TextReads read t cs o u) r
-  answers_term p (Ok x) h e k = reads_term p x h e
-  answers_term p (Err e) h n k = refuses_term p e h k
-
--- the term of a pattern with known names is valid
-pub answer_valid : (u : Table) (p : PatternTree) (r : Result Term Error) → HasKnownNames u p → IfOk r (λ x. as_term p ≡ Some x) → IfOk r (IsValidTerm u)
-answer_valid u p (Ok x) h e = term_valid u p x h e
-answer_valid u p (Err e) h n = tt
 
 -- tokens of a text, and what they read as
 module _ {L : Type 0} (form : L → Form) (read : List Element → Option Form) (t : Table) (cs : List ℕ) (u : Table) (ls : List Lexeme) (tokens : HasTokens t cs ls u) where

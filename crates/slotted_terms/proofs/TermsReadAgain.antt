@@ -1,23 +1,19 @@
 -- A term that was read prints as its pattern, whose print reads as it.
-use Rattle.std.proofs.Common.{◌≡◌, ℕ, Bool, true, false, List, [], ◌∷◌, length, refl, subst, ap, ◌∙◌}
-use Rattle.std.specs.Prelude.{Result, Ok, Err, IfOk, Option, Some, None, ◌==◌, if◌then◌else◌}
+use Rattle.std.proofs.Common.{◌≡◌, Bool, true, false, List, [], ◌∷◌, length, refl, subst, ap, ◌∙◌}
+use Rattle.std.specs.Prelude.{Option, Some, None, ◌==◌, if◌then◌else◌}
 use Rattle.std.specs.Str.{chars}
 use Rattle.slotted_theory.specs.Term.{Term}
 use Rattle.slotted_slots.specs.Syntax.{Element}
-use Rattle.slotted_slots.specs.Table.{Table}
-use Rattle.slotted_slots.specs.declared.error.Error.{Error}
 use Rattle.slotted_nodes.specs.Form.{Form, children}
 use Rattle.slotted_languages.specs.Filled.{term_of}
 use Rattle.slotted_patterns.specs.Outcome.{parsed}
-use Rattle.slotted_patterns.specs.Parsed.{PatternReads}
 use Rattle.slotted_patterns.specs.ReadAgain.{ReadsAsItself}
 use Rattle.slotted_patterns.specs.Shown.{pattern_text}
 use Rattle.slotted_patterns.specs.Tree.{PatternTree, enode, pvar, substitution, PatternRow, no_more, one_more}
 use Rattle.slotted_patterns.specs.View.{tree_of}
-use Rattle.slotted_patterns.specs.declared.pattern.Pattern.{Pattern}
 use Rattle.slotted_terms.specs.AsTerm.{over, in_front, as_term, as_terms}
 use Rattle.slotted_terms.specs.Parsed.{TextReads}
-use Rattle.slotted_terms.specs.ReadAgain.{ReadsAsNodes, TermReadsAsItself}
+use Rattle.slotted_terms.specs.ReadAgain.{TermReadsAsItself}
 use Rattle.slotted_terms.specs.Shown.{term_text, IsWrittenAs}
 use Rattle.slotted_terms.specs.TermPattern.{IsPatternOf, ArePatternsOf}
 use Rattle.slotted_terms.proofs.PatternPrints.{patterns_print}
@@ -61,8 +57,3 @@ term_reads_again form shown written written_as read law t u bs x utf8 sound h =
     let again = law t u bs h.nodes utf8 sound h.reads in
     let printed : pattern_text shown u h.nodes ≡ term_text written u x = patterns_print form shown written written_as u x (term_text written u x) refl h.nodes (term_pattern (tree_of form h.nodes) x h.term) in
     subst (λ cs. TextReads read u (chars cs) (parsed x) u) printed (reads_term read u (chars (pattern_text shown u h.nodes)) u (tree_of form h.nodes) x again h.term)
-
--- the answer for a text that is a pattern of nodes
-pub answer_nodes : {L : Type 0} (form : L → Form) (read : List Element → Option Form) (t : Table) (cs : List ℕ) (u : Table) (p : Pattern L) (r : Result Term Error) → PatternReads read t cs (parsed (tree_of form p)) u → IfOk r (λ x. as_term (tree_of form p) ≡ Some x) → IfOk r (λ x. ReadsAsNodes form read t cs x u)
-answer_nodes form read t cs u p (Ok x) h e = record { nodes = p; reads = h; term = e }
-answer_nodes form read t cs u p (Err e) h n = tt

@@ -1,4 +1,4 @@
-use Rattle.std.proofs.Common.{◌-◌, ◌++◌, ◌∷◌, [], map, length, take, drop, sym, ap, ◌∙◌, arith}
+use Rattle.std.proofs.Common.{◌-◌, ◌++◌, ◌∷◌, [], map, length, sym, ap, ◌∙◌, arith}
 use Rattle.std.proofs.lemmas.List.{take-map, take-append-drop, length-drop}
 use Rattle.slotted_slots.specs.Syntax.{element_of, applied}
 use Rattle.slotted_terms.proofs.ReaderSteps.{on_ok}

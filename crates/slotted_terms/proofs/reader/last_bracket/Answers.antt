@@ -1,4 +1,4 @@
-use Rattle.std.proofs.Common.{◌+◌, ◌-◌, map, drop, sym, ◌∙◌, arith}
+use Rattle.std.proofs.Common.{◌-◌, map, drop, sym, ◌∙◌, arith}
 use Rattle.slotted_slots.specs.Syntax.{element_of}
 use Rattle.slotted_terms.proofs.ReaderSteps.{drop_before, ends_in_bracket, bare_before, width_before}
 use Rattle.slotted_terms.proofs.reader.last_bracket.Goals as goal

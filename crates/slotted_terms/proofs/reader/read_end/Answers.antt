@@ -1,8 +1,7 @@
-use Rattle.std.proofs.Common.{◌++◌, ◌∷◌, [], map, length, take, drop, sym, subst, ap, ◌∙◌, arith}
+use Rattle.std.proofs.Common.{map, drop, sym, subst, ap, ◌∙◌, arith}
 use Rattle.std.specs.Prelude.{option_map}
 use Rattle.std.proofs.lemmas.List.{drop-map, take_rest}
-use Rattle.slotted_slots.specs.Syntax.{element_of, right_paren}
-use Rattle.slotted_nodes.specs.Form.{children}
+use Rattle.slotted_slots.specs.Syntax.{element_of}
 use Rattle.slotted_terms.specs.Reader.{Reached, EndsInBracket}
 use Rattle.slotted_terms.proofs.ReaderSteps.{leads_end}
 use Rattle.slotted_terms.proofs.reader.read_end.Goals as goal

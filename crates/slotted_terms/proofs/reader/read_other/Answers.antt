@@ -1,6 +1,6 @@
-use Rattle.std.proofs.Common.{◌++◌, ◌∷◌, [], map, sym, subst, ap, ◌∙◌}
+use Rattle.std.proofs.Common.{◌∷◌, map, sym, subst, ap, ◌∙◌}
 use Rattle.std.proofs.lemmas.List.{map-append}
-use Rattle.slotted_slots.specs.Syntax.{element_of, lexeme_of, name}
+use Rattle.slotted_slots.specs.Syntax.{element_of, lexeme_of}
 use Rattle.slotted_terms.specs.Reader.{Reached}
 use Rattle.slotted_terms.proofs.ReaderSteps.{leads_slot}
 use Rattle.slotted_terms.proofs.reader.read_other.Goals as goal
