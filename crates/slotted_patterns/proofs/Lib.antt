@@ -5,6 +5,7 @@ pub mod KnownPatterns
 pub mod StackSteps
 pub mod ReaderSteps
 pub mod WholeTexts
+pub mod TextRuns
 pub mod Tokenizing
 pub mod OneReading
 pub mod SomeReading

@@ -9,7 +9,7 @@ ghost use Rattle.slotted_patterns.specs.Parsed.{TextReadsPattern, TokensRead, Re
 
 use crate::grammar::parse_tokens;
 use crate::pattern::Pattern;
-use crate::tokens::{LentToken, chars_of, owned_tokens, tokenize};
+use crate::tokens::{LentToken, owned_tokens, tokenize};
 use slotted_languages::language::Language;
 use slotted_slots::{Error, SlotTable};
 use std::alloc::Global;
@@ -27,8 +27,7 @@ impl<L: Language> Pattern<L> {
         ensures known { IfOk result (λ p. HasKnownNames table.new (tree_of L.form p)) }
         ensures more { KnowsMore table.old table.new }
     {
-        let chars = chars_of(alloc, text)?;
-        let tokens = tokenize(alloc, &chars, table)?;
+        let tokens = tokenize(alloc, text, table)?;
         parse_lent(alloc, &tokens)
     }
 }

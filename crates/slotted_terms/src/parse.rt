@@ -10,7 +10,7 @@ ghost use Rattle.slotted_terms.specs.Valid.{IsValidTerm};
 use crate::expr::RecExpr;
 use crate::reader::parse_tokens;
 use slotted_languages::language::Language;
-use slotted_patterns::tokens::{chars_of, tokenize};
+use slotted_patterns::tokens::tokenize;
 use slotted_slots::{Error, SlotTable};
 use std::alloc::Global;
 
@@ -32,8 +32,7 @@ impl<L: Language> RecExpr<L> {
 
         ensures more { KnowsMore table.old table.new }
     {
-        let chars = chars_of(alloc, text)?;
-        let tokens = tokenize(alloc, &chars, table)?;
+        let tokens = tokenize(alloc, text, table)?;
         parse_tokens(alloc, &tokens)
     }
 }

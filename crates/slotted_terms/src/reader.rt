@@ -1,6 +1,6 @@
 //! The parser of terms over tokens: a loop over one list of the elements of all open brackets, and one of the terms
 //! among them. It gives up where the tokens are no term, or are at fault.
-ghost use Rattle.std.specs.Prelude.{◌≡◌, ◌≤◌, ◌∷◌, ◌++◌, [], length, map, take, List, IsTrue, IfOk, OnOk, IfErr, IfSome, encode_utf8_all};
+ghost use Rattle.std.specs.Prelude.{◌≡◌, ◌≤◌, ◌∷◌, ◌++◌, [], length, map, take, List, IsTrue, IfOk, OnOk, IfErr, IfSome};
 ghost use Rattle.slotted_slots.specs.Error.{IsOutOfMemory};
 ghost use Rattle.slotted_slots.specs.Syntax.{Lexeme, applied, element_of, lexeme_of, right_paren, word};
 ghost use Rattle.slotted_nodes.specs.Form.{children};
@@ -14,7 +14,7 @@ use crate::expr::RecExpr;
 use crate::patterns::into_term;
 use slotted_languages::language::Language;
 use slotted_patterns::parse::parse_lent;
-use slotted_patterns::tokens::{LentToken, text_of};
+use slotted_patterns::tokens::LentToken;
 use slotted_slots::{AppliedId, Error, SyntaxElem, Token};
 use std::alloc::Global;
 
@@ -80,16 +80,16 @@ fn push_term<L: Language>(
 // Reads a word alone. Returns that no operator is due, or `None` if the word is no term.
 fn read_word<L: Language>(
     alloc: Global,
-    text: &[char],
+    text: &str,
     elements: &mut Vec<SyntaxElem>,
     terms: &mut Vec<RecExpr<L>>,
 ) -> Result<Option<bool>, Error>
     ensures ok { IfOk result (λ o. IfSome o (λ due. (ls : List Lexeme) → Leads L.form L.read
-        (map element_of elements.old.items) terms.old.items (word (encode_utf8_all text.now) ∷ ls)
+        (map element_of elements.old.items) terms.old.items (word text.now ∷ ls)
         (map element_of elements.new.items) terms.new.items (front due ls))) }
     ensures err { IfErr result IsOutOfMemory }
 {
-    let operator = SyntaxElem::String(text_of(alloc, text)?);
+    let operator = SyntaxElem::String(String::from_str(alloc, text)?);
     let Some(node) = L::from_syntax(alloc, &[operator])? else {
         return Ok(None);
     };
@@ -155,7 +155,7 @@ fn read_operator(
 {
     match token {
         LentToken::Word(word) => {
-            elements.push(SyntaxElem::String(text_of(alloc, word)?))?;
+            elements.push(SyntaxElem::String(String::from_str(alloc, word)?))?;
             Ok(Some(false))
         }
         _ => Ok(None),
