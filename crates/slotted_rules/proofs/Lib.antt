@@ -29,6 +29,7 @@ pub mod Answers
 pub mod Parts
 pub mod BuiltInstances
 pub mod StackedInstances
+pub mod LastIds
 pub mod StoredMethods
 pub mod Refusing
 pub mod UnitedInstances

@@ -1,7 +1,7 @@
 -- Instances on a stack: those of the parts of a pattern give way to one of the pattern.
-use Rattle.std.proofs.Common.{◌≡◌, ◌∙◌, ap, refl, sym, subst, ℕ, zero, suc, ◌+◌, ◌-◌, ◌<◌, ◌≤◌, List, [], ◌∷◌, ◌++◌, length, take, drop, arith, append_assoc, append-nil, length-append, length-drop}
+use Rattle.std.proofs.Common.{◌≡◌, ◌∙◌, ap, refl, sym, subst, ℕ, zero, suc, ◌+◌, ◌-◌, ◌<◌, ◌≤◌, List, [], ◌∷◌, ◌++◌, length, get_or, map, take, drop, arith, append_assoc, append-nil, length-append, length-drop}
 use Rattle.std.specs.Prelude.{All, Some, true}
-use Rattle.std.proofs.lemmas.List.{take-append-drop, take_all}
+use Rattle.std.proofs.lemmas.List.{get_or-map, length-map, take-append-drop, take_all, take_more}
 use Rattle.std.proofs.lemmas.List.Elements.{All-drop}
 use Rattle.std.proofs.Math.Seq.{get_or-append_seam, take-append_seam}
 use Rattle.slotted_slots.specs.Maps.{keys, values}
@@ -212,40 +212,31 @@ only-one m g h s p ids [] a last each = (subst (λ l. AreInstances m g h s l (p 
 only-one m g h s p ids (b ∷ rest) a last each =
     absurd (omega (arith, instances-length m g h s ids (p ∷ []) each, ap length last, length-append rest (a ∷ [])))
 
--- the node over is f with the first k ids, where these are left
-pub record TakesIds (f over : Form) (left all : List Applied) (k : ℕ) : Type 0 where
-  pub done : List Applied
-  pub joined : done ++ left ≡ all
-  pub form : over ≡ node_over f done
-  pub count : k ≡ length done
+-- once none is left, it is one of the whole
+pub waits-whole : (m : Method) (g h : Graph) (s : Values) (p : PatternTree) (left : List PatternTree) (rest : List Applied) (a : Applied) → left ≡ [] → Waits m g h s p left (rest ++ a ∷ []) → Instantiates m g h s p a
+waits-whole m g h s p left rest a none w =
+    only-one m g h s p (rest ++ a ∷ []) rest a refl (waits-end m g h s p (rest ++ a ∷ []) (subst (λ l. Waits m g h s p l (rest ++ a ∷ [])) none w))
 
-pub takes-start : (f over : Form) (left all : List Applied) → Fits f → over ≡ f → left ≡ all → TakesIds f over left all 0
-takes-start f over left all fits same given = record { done = []; joined = given; form = same ∙ sym (node_over-none f fits); count = refl }
-
-pub takes-some : (f over : Form) (left all : List Applied) (k : ℕ) → TakesIds f over left all k → length left + k ≡ length all
-takes-some f over left all k t = omega (arith, ap length t.joined, length-append t.done left, t.count)
-
-pub takes-within : (f over : Form) (left all : List Applied) (k : ℕ) → TakesIds f over left all k → k < length (children f.tree) → k < length (children over.tree)
-takes-within f over left all k t l = omega (arith, l, ap (λ (z : Form). length (children z.tree)) t.form, length-over f.tree t.done)
-
-pub takes-step : (f over next : Form) (left rest all : List Applied) (k : ℕ) (c : AppliedId) → Fits f → TakesIds f over left all k → left ≡ to_applied c ∷ rest → k < length (children f.tree) → next ≡ with_applied over k c → TakesIds f next rest all (k + 1)
-takes-step f over next left rest all k c fits t first l put =
-    let a : Applied = to_applied c in
-    record {
-      done = t.done ++ a ∷ [];
-      joined = append_assoc t.done (a ∷ []) rest ∙ (ap (λ xs. t.done ++ xs) (sym first) ∙ t.joined);
-      form = put ∙ (ap (λ (z : Form). with_child z k a.0 (keys a.1) (values a.1)) t.form ∙ node_over-more f t.done k a (sym t.count) l fits);
-      count = omega (arith, t.count, length-append t.done (a ∷ []));
-    }
-
-pub takes-end : (f over : Form) (left all : List Applied) (k : ℕ) → TakesIds f over left all k → length all ≤ k → over ≡ node_over f all
-takes-end f over left all k t le =
-    let none : length left ≡ 0 = omega (arith, le, takes-some f over left all k t) in
-    t.form ∙ ap (node_over f) (sym (append-nil t.done) ∙ (ap (λ xs. t.done ++ xs) (sym (empty left none)) ∙ t.joined))
+pub none-taken : (ps : List PatternTree) (k : ℕ) → k ≡ 0 → take k ps ≡ []
+none-taken ps k e = ap (λ n. take n ps) e ∙ none ps
   where
-    empty : (xs : List Applied) → length xs ≡ 0 → xs ≡ []
-    empty [] n = refl
-    empty (x ∷ xs) n = absurd (omega (arith, n))
+    none : (ps : List PatternTree) → take 0 ps ≡ []
+    none [] = refl
+    none (q ∷ qs) = refl
+
+pub some-whole : (p : PatternTree) → 1 ≤ length (subpatterns p)
+some-whole (enode f row) = omega arith
+some-whole (pvar v) = omega arith
+some-whole (substitution b x t) = omega arith
+
+-- the last of some listed patterns
+pub last-listed : {A : Type 0} (tree : A → PatternTree) (listed : List A) (p : PatternTree) (k : ℕ) (x : A) → map tree listed ≡ subpatterns p → 0 < k → k ≤ length listed → x ≡ get_or listed (k - 1) x → take k (subpatterns p) ≡ take (k - 1) (subpatterns p) ++ tree x ∷ []
+last-listed tree listed p k x all some within is =
+    let j = k - 1 in
+    let next : k ≡ j + 1 = omega (arith, some) in
+    let here : tree x ≡ get_or (subpatterns p) j (tree x) = ap tree is ∙ (sym (get_or-map tree listed j x (tree x) (omega (arith, some, within))) ∙ ap (λ l. get_or l j (tree x)) all) in
+    ap (λ n. take n (subpatterns p)) next
+    ∙ (take_more (subpatterns p) j (tree x) (omega (arith, some, within, ap length all, length-map listed tree)) ∙ ap (λ y. take j (subpatterns p) ++ y ∷ []) (sym here))
 
 -- a node over such ids can be added
 pub over-known : (h : Graph) (f over : Form) (ids : List Applied) → Fits f → over ≡ node_over f ids → AreKnown h.table f.names → All (IsValidId h) ids → AllKnown h.table over.names

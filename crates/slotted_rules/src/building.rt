@@ -4,7 +4,7 @@ ghost use Rattle.std.specs.Prelude.{OnOk};
 ghost use Rattle.slotted_slots.specs.Error.{IsShortage};
 ghost use Rattle.slotted_proofs.specs.Equations.{to_applied};
 ghost use Rattle.slotted_patterns.specs.Known.{HasKnownNames};
-ghost use Rattle.slotted_patterns.specs.Subpatterns.{parts};
+ghost use Rattle.slotted_patterns.specs.Subpatterns.{parts, subpatterns};
 ghost use Rattle.slotted_patterns.specs.View.{tree_of};
 ghost use Rattle.slotted_graph.specs.States.{IsGraph};
 ghost use Rattle.slotted_graph.specs.ValidIds.{IsValidId};
@@ -18,6 +18,7 @@ ghost use Rattle.slotted_rules.specs.Putting.{PutsIn};
 ghost use Rattle.slotted_rules.specs.Stacked.{BuildsOver, IsReady, PutsLast};
 
 use crate::adding::add_node;
+use crate::listed::Listed;
 use crate::method::OwnSubst;
 use crate::over::over_last;
 use slotted_analyses::Analysis;
@@ -113,7 +114,7 @@ fn build_over<L: Language, N: Analysis<L>, M: OwnSubst<L, N>>(
     match pattern {
         Pattern::ENode(node, _) => {
             let node = node.copy(alloc)?;
-            let over = over_last(node, ids)?;
+            let over = over_last(node, ids);
             add_node(graph, over)
         }
         Pattern::PVar(name) => match value(subst, name.as_str()) {
@@ -122,6 +123,44 @@ fn build_over<L: Language, N: Analysis<L>, M: OwnSubst<L, N>>(
         },
         Pattern::Subst(_, _, _) => put_last(alloc, graph, method, ids),
     }
+}
+
+/// Returns the id of an instance of the pattern, as `build` does, from the list of the patterns in it.
+pub(crate) fn build_listed<L: Language, N: Analysis<L>, M: OwnSubst<L, N>>(
+    alloc: Global,
+    graph: &mut EGraph<L, N>,
+    method: &mut M,
+    listed: &Listed<L>,
+    subst: &Subst,
+) -> Result<AppliedId, Error>
+    requires graph { IsGraph graph.old }
+    requires listed { map (λ p. tree_of L.form p.now) listed.now.inside.now
+        ≡ subpatterns (tree_of L.form listed.now.pattern.now) }
+    requires known { HasKnownNames graph.old.table (tree_of L.form listed.now.pattern.now) }
+    requires values { AreValidValues graph.old (values_of subst.now) }
+    requires whole { IsSome (pattern_in (tree_of L.form listed.now.pattern.now)) }
+    requires given { HasValues (values_of subst.now) (tree_of L.form listed.now.pattern.now) }
+    ensures ok { IfOk result (λ a. Instantiates M.method graph.old graph.new (values_of subst.now)
+        (tree_of L.form listed.now.pattern.now) (to_applied a)) }
+    ensures asks { OnOk result (AsksMethod M.substitutes method.old graph.old method.new graph.new) }
+    ensures err { OnErr result (IsTrue graph.new.failed ⊎ Grows graph.old graph.new) }
+    ensures carries { IsTrue graph.new.failed
+        ⊎ CarriesIf (IsKnownMethod M.method) N.codes N.meaning graph.old graph.new }
+    ensures fails { IsTrue graph.new.failed → IsErrAnd result IsShortage }
+    ensures only { IfErr result (λ e. IsShortage e ⊎ M.refuses e) }
+{
+    let inside = listed.inside;
+    let mut ids = Vec::new(alloc);
+    let mut left = inside.len();
+    while left > 0 {
+        left -= 1;
+        let id = build_over(alloc, graph, method, inside[left], subst, &mut ids)?;
+        if left == 0 {
+            return Ok(id);
+        }
+        ids.push(id)?;
+    }
+    unreachable!()
 }
 
 /// Returns the id of an instance of the pattern. A variable gives its value, an e-node its class over the answers for
@@ -147,14 +186,10 @@ pub(crate) fn build<L: Language, N: Analysis<L>, M: OwnSubst<L, N>>(
     ensures fails { IsTrue graph.new.failed → IsErrAnd result IsShortage }
     ensures only { IfErr result (λ e. IsShortage e ⊎ M.refuses e) }
 {
-    let mut left = subpatterns(alloc, pattern)?;
-    let mut ids = Vec::new(alloc);
-    while let Some(next) = left.pop() {
-        let id = build_over(alloc, graph, method, next, subst, &mut ids)?;
-        ids.push(id)?;
-    }
-    match ids.pop() {
-        Some(id) => Ok(id),
-        None => unreachable!(),
-    }
+    let inside = subpatterns(alloc, pattern)?;
+    let listed = Listed {
+        pattern,
+        inside: &inside,
+    };
+    build_listed(alloc, graph, method, &listed, subst)
 }

@@ -22,6 +22,7 @@ pub mod hook;
 pub mod instances;
 pub mod iteration;
 pub mod limits;
+mod listed;
 pub mod looking_up;
 pub mod machine;
 pub mod macros;

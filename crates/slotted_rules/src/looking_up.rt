@@ -37,7 +37,7 @@ fn lookup_over<L: Language, N: Analysis<L>>(
         ≡ ids_before (length (children (L.form node).tree)) (map to_applied ids.old.items)) }
     ensures only { IfErr result IsShortage }
 {
-    let over = over_last(node, ids)?;
+    let over = over_last(node, ids);
     if over.slot_count() >= PLACES {
         return Err(Error::OutOfSlots);
     }

@@ -1,8 +1,9 @@
 //! The methods of substitution that a graph can be made with.
-ghost use Rattle.std.specs.Prelude.{◌≡◌, ◌⊎◌, IsSome, IsTrue, IfOk, IfErr, OnErr};
+ghost use Rattle.std.specs.Prelude.{◌≡◌, ◌⊎◌, map, IsSome, IsTrue, IfOk, IfErr, OnErr};
 ghost use Rattle.slotted_slots.specs.Error.{IsShortage};
 ghost use Rattle.slotted_proofs.specs.Equations.{to_applied};
 ghost use Rattle.slotted_patterns.specs.Known.{HasKnownNames};
+ghost use Rattle.slotted_patterns.specs.Subpatterns.{subpatterns};
 ghost use Rattle.slotted_patterns.specs.View.{tree_of};
 ghost use Rattle.slotted_graph.specs.Graph.{IsFullId};
 ghost use Rattle.slotted_graph.specs.States.{IsGraph};
@@ -13,7 +14,8 @@ ghost use Rattle.slotted_rules.specs.Carried.{CarriesAlong};
 ghost use Rattle.slotted_rules.specs.Instances.{AreValidValues, HasValues, Instantiates};
 ghost use Rattle.slotted_rules.specs.Methods.{canonical, extracted, method_of};
 
-use crate::building::build;
+use crate::building::build_listed;
+use crate::listed::Listed;
 use crate::method::OwnSubst;
 use crate::substitution::replaced;
 use slotted_analyses::Analysis;
@@ -22,6 +24,7 @@ use slotted_graph::{EGraph, SubstMethod};
 use slotted_languages::Language;
 use slotted_patterns::Pattern;
 use slotted_rule_patterns::Subst;
+use slotted_rule_patterns::inside::subpatterns;
 use slotted_slots::{AppliedId, Error};
 use std::alloc::Global;
 
@@ -76,6 +79,32 @@ impl<L: Language, N: Analysis<L>> OwnSubst<L, N> for Extracted {
     }
 }
 
+/// Builds an instance by a method that a graph can be made with, from the list of the patterns in the pattern.
+pub(crate) fn build_stored_listed<L: Language, N: Analysis<L>>(
+    alloc: Global,
+    graph: &mut EGraph<L, N>,
+    method: SubstMethod,
+    listed: &Listed<L>,
+    subst: &Subst,
+) -> Result<AppliedId, Error>
+    requires graph { IsGraph graph.old }
+    requires listed { map (λ p. tree_of L.form p.now) listed.now.inside.now
+        ≡ subpatterns (tree_of L.form listed.now.pattern.now) }
+    requires known { HasKnownNames graph.old.table (tree_of L.form listed.now.pattern.now) }
+    requires values { AreValidValues graph.old (values_of subst.now) }
+    requires whole { IsSome (pattern_in (tree_of L.form listed.now.pattern.now)) }
+    requires given { HasValues (values_of subst.now) (tree_of L.form listed.now.pattern.now) }
+    ensures ok { IfOk result (λ a. Instantiates (method_of method) graph.old graph.new (values_of subst.now)
+        (tree_of L.form listed.now.pattern.now) (to_applied a)) }
+    ensures carries { IsTrue graph.new.failed ⊎ CarriesAlong N.codes N.meaning graph.old graph.new }
+    ensures only { IfErr result IsShortage }
+{
+    match method {
+        SubstMethod::SynExpr => build_listed(alloc, graph, &mut Canonical, listed, subst),
+        SubstMethod::Extraction => build_listed(alloc, graph, &mut Extracted, listed, subst),
+    }
+}
+
 /// Builds an instance by a method that a graph can be made with.
 pub(crate) fn build_stored<L: Language, N: Analysis<L>>(
     alloc: Global,
@@ -94,8 +123,10 @@ pub(crate) fn build_stored<L: Language, N: Analysis<L>>(
     ensures carries { IsTrue graph.new.failed ⊎ CarriesAlong N.codes N.meaning graph.old graph.new }
     ensures only { IfErr result IsShortage }
 {
-    match method {
-        SubstMethod::SynExpr => build(alloc, graph, &mut Canonical, pattern, subst),
-        SubstMethod::Extraction => build(alloc, graph, &mut Extracted, pattern, subst),
-    }
+    let inside = subpatterns(alloc, pattern)?;
+    let listed = Listed {
+        pattern,
+        inside: &inside,
+    };
+    build_stored_listed(alloc, graph, method, &listed, subst)
 }

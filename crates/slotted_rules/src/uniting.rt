@@ -1,7 +1,8 @@
 //! Uniting instances of two patterns.
-ghost use Rattle.std.specs.Prelude.{◌≡◌, ◌⊎◌, ◌↔◌, false, None, IsSome, IsTrue, IsErrAnd, IsErrOf, IfErr, IfOk, OnOk};
+ghost use Rattle.std.specs.Prelude.{◌≡◌, ◌⊎◌, ◌↔◌, false, map, None, IsSome, IsTrue, IsErrAnd, IsErrOf, IfErr, IfOk, OnOk};
 ghost use Rattle.slotted_slots.specs.Error.{IsShortage};
 ghost use Rattle.slotted_patterns.specs.Known.{HasKnownNames};
+ghost use Rattle.slotted_patterns.specs.Subpatterns.{subpatterns};
 ghost use Rattle.slotted_patterns.specs.View.{tree_of};
 ghost use Rattle.slotted_graph.specs.Extension.{ExtendsTo};
 ghost use Rattle.slotted_graph.specs.Image.{text_bytes};
@@ -16,13 +17,15 @@ ghost use Rattle.slotted_rules.specs.Refusals.{IsRefusedBefore, RefusesInstances
 ghost use Rattle.slotted_rules.specs.Uniting.{UnitesInstances};
 
 use crate::filling::{are_full, full_values};
+use crate::listed::Listed;
 use crate::refusals::{check_values, failing};
-use crate::stored::build_stored;
+use crate::stored::build_stored_listed;
 use slotted_analyses::Analysis;
 use slotted_graph::EGraph;
 use slotted_languages::Language;
 use slotted_patterns::Pattern;
 use slotted_rule_patterns::Subst;
+use slotted_rule_patterns::inside::subpatterns;
 use slotted_rule_patterns::pattern::is_whole;
 use slotted_slots::Error;
 use std::alloc::Global;
@@ -47,28 +50,32 @@ fn check_both<L: Language>(
 fn unite_full<L: Language, N: Analysis<L>>(
     alloc: Global,
     graph: &mut EGraph<L, N>,
-    a: &Pattern<L>,
-    b: &Pattern<L>,
+    a: &Listed<L>,
+    b: &Listed<L>,
     subst: &Subst,
     text: Option<String>,
 ) -> Result<bool, Error>
     requires graph { IsGraph graph.old }
-    requires left { HasKnownNames graph.old.table (tree_of L.form a.now) }
-    requires right { HasKnownNames graph.old.table (tree_of L.form b.now) }
+    requires listed_left { map (λ p. tree_of L.form p.now) a.now.inside.now
+        ≡ subpatterns (tree_of L.form a.now.pattern.now) }
+    requires listed_right { map (λ p. tree_of L.form p.now) b.now.inside.now
+        ≡ subpatterns (tree_of L.form b.now.pattern.now) }
+    requires left { HasKnownNames graph.old.table (tree_of L.form a.now.pattern.now) }
+    requires right { HasKnownNames graph.old.table (tree_of L.form b.now.pattern.now) }
     requires full { AreFullValues graph.old (values_of subst.now) }
-    requires whole_left { IsSome (pattern_in (tree_of L.form a.now)) }
-    requires whole_right { IsSome (pattern_in (tree_of L.form b.now)) }
-    requires given_left { HasValues (values_of subst.now) (tree_of L.form a.now) }
-    requires given_right { HasValues (values_of subst.now) (tree_of L.form b.now) }
+    requires whole_left { IsSome (pattern_in (tree_of L.form a.now.pattern.now)) }
+    requires whole_right { IsSome (pattern_in (tree_of L.form b.now.pattern.now)) }
+    requires given_left { HasValues (values_of subst.now) (tree_of L.form a.now.pattern.now) }
+    requires given_right { HasValues (values_of subst.now) (tree_of L.form b.now.pattern.now) }
     ensures unites { IfOk result (UnitesInstances graph.old graph.new (values_of subst.now)
-        (tree_of L.form a.now) (tree_of L.form b.now) (text_bytes text)) }
+        (tree_of L.form a.now.pattern.now) (tree_of L.form b.now.pattern.now) (text_bytes text)) }
     ensures well { OnOk result (graph.new.failed ≡ false) }
     ensures carries { IsTrue graph.new.failed ⊎ CarriesAlong N.codes N.meaning graph.old graph.new }
     ensures only { IfErr result IsShortage }
 {
     let method = graph.subst_method();
-    let left = build_stored(alloc, graph, method, a, subst)?;
-    let right = build_stored(alloc, graph, method, b, subst)?;
+    let left = build_stored_listed(alloc, graph, method, a, subst)?;
+    let right = build_stored_listed(alloc, graph, method, b, subst)?;
     let answer = graph.union_quietly(&left, &right, text);
     // This call is there for its clauses: what holds of each graph that has not failed.
     let _ = graph.is_failed();
@@ -79,36 +86,73 @@ fn unite_full<L: Language, N: Analysis<L>>(
 fn fill_and_unite<L: Language, N: Analysis<L>>(
     alloc: Global,
     graph: &mut EGraph<L, N>,
-    a: &Pattern<L>,
-    b: &Pattern<L>,
+    a: &Listed<L>,
+    b: &Listed<L>,
     subst: &Subst,
     text: Option<String>,
 ) -> Result<bool, Error>
     requires graph { IsGraph graph.old }
-    requires left { HasKnownNames graph.old.table (tree_of L.form a.now) }
-    requires right { HasKnownNames graph.old.table (tree_of L.form b.now) }
+    requires listed_left { map (λ p. tree_of L.form p.now) a.now.inside.now
+        ≡ subpatterns (tree_of L.form a.now.pattern.now) }
+    requires listed_right { map (λ p. tree_of L.form p.now) b.now.inside.now
+        ≡ subpatterns (tree_of L.form b.now.pattern.now) }
+    requires left { HasKnownNames graph.old.table (tree_of L.form a.now.pattern.now) }
+    requires right { HasKnownNames graph.old.table (tree_of L.form b.now.pattern.now) }
     requires values { AreValidValues graph.old (values_of subst.now) }
-    requires whole_left { IsSome (pattern_in (tree_of L.form a.now)) }
-    requires whole_right { IsSome (pattern_in (tree_of L.form b.now)) }
-    requires given_left { HasValues (values_of subst.now) (tree_of L.form a.now) }
-    requires given_right { HasValues (values_of subst.now) (tree_of L.form b.now) }
+    requires whole_left { IsSome (pattern_in (tree_of L.form a.now.pattern.now)) }
+    requires whole_right { IsSome (pattern_in (tree_of L.form b.now.pattern.now)) }
+    requires given_left { HasValues (values_of subst.now) (tree_of L.form a.now.pattern.now) }
+    requires given_right { HasValues (values_of subst.now) (tree_of L.form b.now.pattern.now) }
     ensures unites { IfOk result (UnitesInstances graph.old graph.new (values_of subst.now)
-        (tree_of L.form a.now) (tree_of L.form b.now) (text_bytes text)) }
+        (tree_of L.form a.now.pattern.now) (tree_of L.form b.now.pattern.now) (text_bytes text)) }
     ensures well { OnOk result (graph.new.failed ≡ false) }
     ensures carries { IsTrue graph.new.failed ⊎ CarriesAlong N.codes N.meaning graph.old graph.new }
     ensures only { IfErr result IsShortage }
 {
     let filled = full_values(alloc, graph, subst)?;
     let method = graph.subst_method();
-    let left = build_stored(alloc, graph, method, a, &filled)?;
-    let right = build_stored(alloc, graph, method, b, &filled)?;
+    let left = build_stored_listed(alloc, graph, method, a, &filled)?;
+    let right = build_stored_listed(alloc, graph, method, b, &filled)?;
     let united = graph.union_quietly(&left, &right, text);
     // This call is there for its clauses: what holds of each graph that has not failed.
     let _ = graph.is_failed();
     united
 }
 
-// Unites both instances. Values are copied only if one of them omits a name.
+// Unites both instances, from the lists of the patterns in them. Values are copied only if one of them omits a name.
+fn unite_listed<L: Language, N: Analysis<L>>(
+    alloc: Global,
+    graph: &mut EGraph<L, N>,
+    a: &Listed<L>,
+    b: &Listed<L>,
+    subst: &Subst,
+    text: Option<String>,
+) -> Result<bool, Error>
+    requires graph { IsGraph graph.old }
+    requires listed_left { map (λ p. tree_of L.form p.now) a.now.inside.now
+        ≡ subpatterns (tree_of L.form a.now.pattern.now) }
+    requires listed_right { map (λ p. tree_of L.form p.now) b.now.inside.now
+        ≡ subpatterns (tree_of L.form b.now.pattern.now) }
+    requires left { HasKnownNames graph.old.table (tree_of L.form a.now.pattern.now) }
+    requires right { HasKnownNames graph.old.table (tree_of L.form b.now.pattern.now) }
+    requires values { AreValidValues graph.old (values_of subst.now) }
+    requires whole_left { IsSome (pattern_in (tree_of L.form a.now.pattern.now)) }
+    requires whole_right { IsSome (pattern_in (tree_of L.form b.now.pattern.now)) }
+    requires given_left { HasValues (values_of subst.now) (tree_of L.form a.now.pattern.now) }
+    requires given_right { HasValues (values_of subst.now) (tree_of L.form b.now.pattern.now) }
+    ensures unites { IfOk result (UnitesInstances graph.old graph.new (values_of subst.now)
+        (tree_of L.form a.now.pattern.now) (tree_of L.form b.now.pattern.now) (text_bytes text)) }
+    ensures well { OnOk result (graph.new.failed ≡ false) }
+    ensures carries { IsTrue graph.new.failed ⊎ CarriesAlong N.codes N.meaning graph.old graph.new }
+    ensures only { IfErr result IsShortage }
+{
+    if are_full(graph, subst) {
+        return unite_full(alloc, graph, a, b, subst, text);
+    }
+    fill_and_unite(alloc, graph, a, b, subst, text)
+}
+
+// Unites both instances, as `unite_listed` does.
 fn unite<L: Language, N: Analysis<L>>(
     alloc: Global,
     graph: &mut EGraph<L, N>,
@@ -131,10 +175,47 @@ fn unite<L: Language, N: Analysis<L>>(
     ensures carries { IsTrue graph.new.failed ⊎ CarriesAlong N.codes N.meaning graph.old graph.new }
     ensures only { IfErr result IsShortage }
 {
-    if are_full(graph, subst) {
-        return unite_full(alloc, graph, a, b, subst, text);
-    }
-    fill_and_unite(alloc, graph, a, b, subst, text)
+    let in_a = subpatterns(alloc, a)?;
+    let in_b = subpatterns(alloc, b)?;
+    let a = Listed {
+        pattern: a,
+        inside: &in_a,
+    };
+    let b = Listed {
+        pattern: b,
+        inside: &in_b,
+    };
+    unite_listed(alloc, graph, &a, &b, subst, text)
+}
+
+/// Asserts that instances of both patterns are equal, as `union_tested` does, from the lists of the patterns in them.
+pub(crate) fn union_listed<L: Language, N: Analysis<L>>(
+    alloc: Global,
+    graph: &mut EGraph<L, N>,
+    a: &Listed<L>,
+    b: &Listed<L>,
+    subst: &Subst,
+    text: Option<String>,
+) -> Result<bool, Error>
+    requires graph { IsGraph graph.old }
+    requires listed_left { map (λ p. tree_of L.form p.now) a.now.inside.now
+        ≡ subpatterns (tree_of L.form a.now.pattern.now) }
+    requires listed_right { map (λ p. tree_of L.form p.now) b.now.inside.now
+        ≡ subpatterns (tree_of L.form b.now.pattern.now) }
+    requires left { HasKnownNames graph.old.table (tree_of L.form a.now.pattern.now) }
+    requires right { HasKnownNames graph.old.table (tree_of L.form b.now.pattern.now) }
+    requires values { AreValidValues graph.old (values_of subst.now) }
+    requires tested { HavePassed (values_of subst.now) (tree_of L.form a.now.pattern.now)
+        (tree_of L.form b.now.pattern.now) }
+    ensures unites { IfOk result (UnitesInstances graph.old graph.new (values_of subst.now)
+        (tree_of L.form a.now.pattern.now) (tree_of L.form b.now.pattern.now) (text_bytes text)) }
+    ensures extends { IsTrue graph.new.failed ⊎ ExtendsTo graph.old graph.new }
+    ensures carries { IsTrue graph.new.failed ⊎ CarriesAlong N.codes N.meaning graph.old graph.new }
+    ensures fails { IsTrue graph.new.failed ↔ IsErrAnd result IsShortage }
+    ensures only { IfErr result IsShortage }
+{
+    let answer = unite_listed(alloc, graph, a, b, subst, text);
+    failing(graph, answer)
 }
 
 /// Asserts that instances of both patterns are equal, as `union_instantiations` does, and tests neither pattern.

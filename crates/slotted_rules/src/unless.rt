@@ -54,7 +54,7 @@ fn node_seen<L: Language, N: Analysis<L>>(
     ensures err { IfErr result IsOutOfMemory }
 {
     let node = node.copy(alloc)?;
-    let over = over_last(node, ids)?;
+    let over = over_last(node, ids);
     if !graph.is_valid_node(&over) {
         return Ok(None);
     }

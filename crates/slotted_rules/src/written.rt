@@ -1,7 +1,8 @@
 //! Written rules as rules: the left side is searched for, and instances of both sides are united.
-ghost use Rattle.std.specs.Prelude.{◌≡◌, ◌<◌, ◌↔◌, ◌⊎◌, None, [], false, length, slice_index_or, string_bytes};
+ghost use Rattle.std.specs.Prelude.{◌≡◌, ◌<◌, ◌↔◌, ◌⊎◌, None, [], false, length, map, slice_index_or, string_bytes};
 ghost use Rattle.std.specs.Prelude.{IsErr, IsErrAnd, IsErrOf, IsSome, IsTrue, IfErr, IfOk, OnOk, Some};
-ghost use Rattle.slotted_slots.specs.Error.{IsShortage};
+ghost use Rattle.slotted_slots.specs.Error.{IsOutOfMemory, IsShortage};
+ghost use Rattle.slotted_patterns.specs.Subpatterns.{subpatterns};
 ghost use Rattle.slotted_patterns.specs.View.{tree_of};
 ghost use Rattle.slotted_rule_patterns.specs.PatternCode.{pattern_in};
 ghost use Rattle.slotted_rule_patterns.specs.Values.{values_of};
@@ -22,17 +23,51 @@ ghost use Rattle.slotted_rules.specs.Written.{CanBeSearched, PassesTests};
 
 use crate::condition::Cond;
 use crate::failing::failing;
+use crate::listed::Listed;
 use crate::rewrite::Rewrite;
 use crate::rule::RewriteT;
-use crate::union_tested;
+use crate::uniting::union_listed;
 use slotted_analyses::Analysis;
 use slotted_graph::EGraph;
 use slotted_languages::Language;
 use slotted_matching::Matches;
+use slotted_patterns::Pattern;
 use slotted_rule_patterns::Subst;
+use slotted_rule_patterns::inside::subpatterns;
 use slotted_rule_patterns::pattern::{first_lacking, has_substitution, is_whole};
 use slotted_slots::Error;
 use std::alloc::Global;
+
+// What is made once for many matches of a rule: the lists of the patterns in both sides, and whether the right side is
+// whole.
+#[derive(Drop)]
+struct Sides<'a, L: Language> {
+    in_left: Vec<&'a Pattern<L>>,
+    in_right: Vec<&'a Pattern<L>>,
+    right_is_whole: bool,
+}
+
+// Returns what is made once for many matches of the rule.
+fn sides_of<'a, L: Language, C: Drop>(
+    alloc: Global,
+    rule: &'a Rewrite<L, C>,
+) -> Result<Sides<'a, L>, Error>
+    ensures in_left { IfOk result
+        (λ s. map (λ p. tree_of L.form p.now) s.in_left.items ≡ subpatterns (tree_of L.form rule.now.left)) }
+    ensures in_right { IfOk result
+        (λ s. map (λ p. tree_of L.form p.now) s.in_right.items ≡ subpatterns (tree_of L.form rule.now.right)) }
+    ensures right { IfOk result
+        (λ s. IsTrue s.right_is_whole ↔ IsSome (pattern_in (tree_of L.form rule.now.right))) }
+    ensures err { IfErr result IsOutOfMemory }
+{
+    let in_left = subpatterns(alloc, &rule.left)?;
+    let in_right = subpatterns(alloc, &rule.right)?;
+    Ok(Sides {
+        in_left,
+        in_right,
+        right_is_whole: is_whole(&rule.right),
+    })
+}
 
 // Unites the instances of both sides, with the rule's name for a text. Returns whether they were not found equal
 // before.
@@ -40,9 +75,14 @@ fn unite<L: Language, N: Analysis<L>, C: Drop>(
     alloc: Global,
     graph: &mut EGraph<L, N>,
     rule: &Rewrite<L, C>,
+    sides: &Sides<L>,
     subst: &Subst,
 ) -> Result<bool, Error>
     requires graph { IsGraph graph.old }
+    requires in_left { map (λ p. tree_of L.form p.now) sides.now.in_left.items
+        ≡ subpatterns (tree_of L.form rule.now.left) }
+    requires in_right { map (λ p. tree_of L.form p.now) sides.now.in_right.items
+        ≡ subpatterns (tree_of L.form rule.now.right) }
     requires rule { CanBeSearched L.form graph.old.table rule.now }
     requires valid { AreValidValues graph.old (values_of subst.now) }
     requires whole { IsSome (pattern_in (tree_of L.form rule.now.left)) }
@@ -58,22 +98,32 @@ fn unite<L: Language, N: Analysis<L>, C: Drop>(
     ensures err { IfErr result IsShortage }
 {
     let name = String::from_str(alloc, rule.name.as_str())?;
-    union_tested(alloc, graph, &rule.left, &rule.right, subst, Some(name))
+    let left = Listed {
+        pattern: &rule.left,
+        inside: &sides.in_left,
+    };
+    let right = Listed {
+        pattern: &rule.right,
+        inside: &sides.in_right,
+    };
+    union_listed(alloc, graph, &left, &right, subst, Some(name))
 }
 
 // Unites the instances of both sides if the condition holds. Returns whether they were not found equal before.
-//
-// Whether the right side is whole is tested once for many matches.
 fn apply_to<L: Language, N: Analysis<L>, C: Cond<L, N>>(
     alloc: Global,
     graph: &mut EGraph<L, N>,
     rule: &Rewrite<L, C>,
-    right_is_whole: bool,
+    sides: &Sides<L>,
     subst: &Subst,
 ) -> Result<bool, Error>
     requires graph { IsGraph graph.old }
+    requires in_left { map (λ p. tree_of L.form p.now) sides.now.in_left.items
+        ≡ subpatterns (tree_of L.form rule.now.left) }
+    requires in_right { map (λ p. tree_of L.form p.now) sides.now.in_right.items
+        ≡ subpatterns (tree_of L.form rule.now.right) }
     requires rule { CanBeSearched L.form graph.old.table rule.now }
-    requires right { IsTrue right_is_whole ↔ IsSome (pattern_in (tree_of L.form rule.now.right)) }
+    requires right { IsTrue sides.now.right_is_whole ↔ IsSome (pattern_in (tree_of L.form rule.now.right)) }
     requires valid { AreValidValues graph.old (values_of subst.now) }
     requires whole { IsSome (pattern_in (tree_of L.form rule.now.left)) }
     requires values { first_missing (tree_of L.form rule.now.left) (values_of subst.now) ≡ None }
@@ -88,10 +138,10 @@ fn apply_to<L: Language, N: Analysis<L>, C: Cond<L, N>>(
     if !rule.condition.holds(alloc, subst, graph)? {
         return Ok(false);
     }
-    if !right_is_whole {
+    if !sides.right_is_whole {
         return Err(Error::NotATerm);
     }
-    unite(alloc, graph, rule, subst)
+    unite(alloc, graph, rule, sides, subst)
 }
 
 // Unites the instances of both sides for one match, if the condition holds. Returns whether they were not found equal
@@ -100,13 +150,17 @@ fn apply_answer<L: Language, N: Analysis<L>, C: Cond<L, N>>(
     alloc: Global,
     graph: &mut EGraph<L, N>,
     rule: &Rewrite<L, C>,
-    right_is_whole: bool,
+    sides: &Sides<L>,
     found: &Matches,
     answer: usize,
 ) -> Result<bool, Error>
     requires graph { IsGraph graph.old }
+    requires in_left { map (λ p. tree_of L.form p.now) sides.now.in_left.items
+        ≡ subpatterns (tree_of L.form rule.now.left) }
+    requires in_right { map (λ p. tree_of L.form p.now) sides.now.in_right.items
+        ≡ subpatterns (tree_of L.form rule.now.right) }
     requires rule { CanBeSearched L.form graph.old.table rule.now }
-    requires right { IsTrue right_is_whole ↔ IsSome (pattern_in (tree_of L.form rule.now.right)) }
+    requires right { IsTrue sides.now.right_is_whole ↔ IsSome (pattern_in (tree_of L.form rule.now.right)) }
     requires found { CanBeApplied (tree_of L.form rule.now.left) found.now graph.old }
     requires answer { answer < length found.now }
     ensures applies { IfOk result (AppliesOne (C.answers rule.now.condition) (tree_of L.form rule.now.left)
@@ -118,7 +172,7 @@ fn apply_answer<L: Language, N: Analysis<L>, C: Cond<L, N>>(
         (C.refuses rule.now.condition) (tree_of L.form rule.now.right) (slice_index_or found.now answer []) graph.old e) }
 {
     let subst = found.substitution(alloc, answer)?;
-    apply_to(alloc, graph, rule, right_is_whole, &subst)
+    apply_to(alloc, graph, rule, sides, &subst)
 }
 
 // Unites the instances of both sides for each match in turn, if the condition holds then. Returns for how many matches
@@ -151,10 +205,10 @@ fn apply_found<L: Language, N: Analysis<L>, C: Cond<L, N>>(
     ensures err { IfErr result (λ e. IsShortage e
         ⊎ IsRefusedRewrite (C.refuses rule.now.condition) (tree_of L.form rule.now.right) e) }
 {
-    let right_is_whole = is_whole(&rule.right);
+    let sides = sides_of(alloc, rule)?;
     let mut united = 0;
     for answer in 0..found.len() {
-        united += usize::from(apply_answer(alloc, graph, rule, right_is_whole, found, answer)?);
+        united += usize::from(apply_answer(alloc, graph, rule, &sides, found, answer)?);
     }
     Ok(united)
 }

@@ -22,8 +22,8 @@ use Rattle.slotted_rules.proofs.StackedInstances.{last-count, last-valid, over-c
 use Rattle.slotted_rules.proofs.AskedMethods.{asks-built, asks-none}
 use Rattle.slotted_rules.proofs.building.build_over.Goals as goal
 
-pub over_last-requires : goal.over_last-requires
-over_last-requires g c =
+pub over_last-over-requires : goal.over_last-over-requires
+over_last-over-requires g c =
     let form = g.L.LanguageChildren.form in
     let s = values_of c.args.subst.now in
     let t = c.args.graph.now.table in
@@ -33,10 +33,6 @@ over_last-requires g c =
     tree_of-node form c.args.pattern.now c.in-ENode.node c.in-ENode.field-1 c.in-ENode.is ∙ ap (λ n. enode (form n) (row_of qs)) (sym c.in_ok-node-in-ENode.ensures.ok) in
     let many : length qs ≡ length (children f.tree) = ready-count t s f qs (ready-node t s f qs (subst (IsReady t s) view c.requires.ready)) in
     omega (arith, c.requires.enough, ap (λ q. length (parts q)) view, ap length (patterns_in-row qs), many)
-
-pub returns-in_err-over-in-ENode-clause-err : goal.returns-in_err-over-in-ENode-clause-err
-returns-in_err-over-in-ENode-clause-err g c =
-    err-then c.from_residual-in_err-over-in-ENode.result (inr (grows-itself c.args.graph.now c.requires.graph))
 
 pub add_node-requires-clause-known : goal.add_node-requires-clause-known
 add_node-requires-clause-known g c =
@@ -49,7 +45,7 @@ add_node-requires-clause-known g c =
     tree_of-node form c.args.pattern.now c.in-ENode.node c.in-ENode.field-1 c.in-ENode.is ∙ ap (λ n. enode (form n) (row_of qs)) (sym c.in_ok-node-in-ENode.ensures.ok) in
     let ready : IsReady h.table s (enode f (row_of qs)) = subst (IsReady h.table s) view c.requires.ready in
     let ids = map to_applied c.args.ids.now.items in
-    over-known h f (form c.in_ok-over-in-ENode.over) (last_ids (length (children f.tree)) ids) (g.met.L.LanguageChildren.fits c.in_ok-node-in-ENode.node) c.in_ok-over-in-ENode.ensures.ok ready.known.0 (last-valid h (length (children f.tree)) ids c.requires.valid)
+    over-known h f (form c.over_last-over.result) (last_ids (length (children f.tree)) ids) (g.met.L.LanguageChildren.fits c.in_ok-node-in-ENode.node) c.over_last-over.ensures.over ready.known.0 (last-valid h (length (children f.tree)) ids c.requires.valid)
 
 pub add_node-requires-clause-children : goal.add_node-requires-clause-children
 add_node-requires-clause-children g c =
@@ -63,10 +59,10 @@ add_node-requires-clause-children g c =
     let many : length qs ≡ length (children f.tree) = ready-count h.table s f qs (ready-node h.table s f qs (subst (IsReady h.table s) view c.requires.ready)) in
     let ids = map to_applied c.args.ids.now.items in
     let enough : length (children f.tree) ≤ length ids = omega (arith, c.requires.enough, ap (λ q. length (parts q)) view, ap length (patterns_in-row qs), many, length-map c.args.ids.now.items to_applied) in
-    over-children h f (form c.in_ok-over-in-ENode.over) (last_ids (length (children f.tree)) ids) (g.met.L.LanguageChildren.fits c.in_ok-node-in-ENode.node) c.in_ok-over-in-ENode.ensures.ok (last-count (length (children f.tree)) ids enough) (last-valid h (length (children f.tree)) ids c.requires.valid)
+    over-children h f (form c.over_last-over.result) (last_ids (length (children f.tree)) ids) (g.met.L.LanguageChildren.fits c.in_ok-node-in-ENode.node) c.over_last-over.ensures.over (last-count (length (children f.tree)) ids enough) (last-valid h (length (children f.tree)) ids c.requires.valid)
 
-pub returns-in_ok-over-in-ENode-clause-ok : goal.returns-in_ok-over-in-ENode-clause-ok
-returns-in_ok-over-in-ENode-clause-ok g c =
+pub returns-in_ok-node-in-ENode-clause-ok : goal.returns-in_ok-node-in-ENode-clause-ok
+returns-in_ok-node-in-ENode-clause-ok g c =
     let form = g.L.LanguageChildren.form in
     let m = g.M.OwnSubst.method in
     let s = values_of c.args.subst.now in
@@ -78,13 +74,13 @@ returns-in_ok-over-in-ENode-clause-ok g c =
     tree_of-node form c.args.pattern.now c.in-ENode.node c.in-ENode.field-1 c.in-ENode.is ∙ ap (λ n. enode (form n) (row_of qs)) (sym c.in_ok-node-in-ENode.ensures.ok) in
     let many : length qs ≡ length (children f.tree) = ready-count h.table s f qs (ready-node h.table s f qs (subst (IsReady h.table s) view c.requires.ready)) in
     let ids = map to_applied c.args.ids.now.items in
-    let rest = map to_applied c.over_last.new.ids.items in
+    let rest = map to_applied c.over_last-over.new.ids.items in
     subst (λ q. IfOk c.add_node.result (λ a. BuildsOver m h i s q ids rest (to_applied a))) (sym view)
     (ok-added c.add_node.result (λ a. BuildsOver m h i s (enode f (row_of qs)) ids rest (to_applied a)) _ _ _ c.add_node.ensures.full c.add_node.ensures.syn c.add_node.ensures.builds
-    (λ a full syn builds. over-node m h i s f qs ids rest (to_applied a) (g.met.L.LanguageChildren.fits c.in_ok-node-in-ENode.node) many c.in_ok-over-in-ENode.ensures.rest (subst (λ (z : Form). AddsSyn h i z (to_applied a)) c.in_ok-over-in-ENode.ensures.ok syn) builds full))
+    (λ a full syn builds. over-node m h i s f qs ids rest (to_applied a) (g.met.L.LanguageChildren.fits c.in_ok-node-in-ENode.node) many c.over_last-over.ensures.rest (subst (λ (z : Form). AddsSyn h i z (to_applied a)) c.over_last-over.ensures.over syn) builds full))
 
-pub returns-in_ok-over-in-ENode-clause-err : goal.returns-in_ok-over-in-ENode-clause-err
-returns-in_ok-over-in-ENode-clause-err g c =
+pub returns-in_ok-node-in-ENode-clause-err : goal.returns-in_ok-node-in-ENode-clause-err
+returns-in_ok-node-in-ENode-clause-err g c =
     let h = c.args.graph.now in
     err-mapped c.add_node.result c.add_node.ensures.err (later-built h h c.add_node.new.graph (grows-itself h c.requires.graph))
 
@@ -133,17 +129,14 @@ returns-in-Subst-clause-ok g c =
 pub returns-in_err-node-in-ENode-clause-carries : goal.returns-in_err-node-in-ENode-clause-carries
 returns-in_err-node-in-ENode-clause-carries g c = inr (carries-itself g.N.Analysis.codes g.N.Analysis.meaning g.met.N.Analysis.is_merge c.args.graph.now)
 
-pub returns-in_err-over-in-ENode-clause-carries : goal.returns-in_err-over-in-ENode-clause-carries
-returns-in_err-over-in-ENode-clause-carries g c = inr (carries-itself g.N.Analysis.codes g.N.Analysis.meaning g.met.N.Analysis.is_merge c.args.graph.now)
-
-pub returns-in_ok-over-in-ENode-clause-carries : goal.returns-in_ok-over-in-ENode-clause-carries
-returns-in_ok-over-in-ENode-clause-carries g c = failed-or-for g.N.Analysis.codes g.N.Analysis.meaning c.args.graph.now c.add_node.new.graph (λ k. tt) c.add_node.ensures.carries
+pub returns-in_ok-node-in-ENode-clause-carries : goal.returns-in_ok-node-in-ENode-clause-carries
+returns-in_ok-node-in-ENode-clause-carries g c = failed-or-for g.N.Analysis.codes g.N.Analysis.meaning c.args.graph.now c.add_node.new.graph (λ k. tt) c.add_node.ensures.carries
 
 pub returns-in-Some-clause-carries : goal.returns-in-Some-clause-carries
 returns-in-Some-clause-carries g c = inr (carries-itself g.N.Analysis.codes g.N.Analysis.meaning g.met.N.Analysis.is_merge c.args.graph.now)
 
-pub returns-in_ok-over-in-ENode-clause-asks : goal.returns-in_ok-over-in-ENode-clause-asks
-returns-in_ok-over-in-ENode-clause-asks g c = asks-built g.M.OwnSubst.substitutes c.args.method.now c.args.graph.now c.add_node.new.graph c.add_node.result c.add_node.ensures.builds
+pub returns-in_ok-node-in-ENode-clause-asks : goal.returns-in_ok-node-in-ENode-clause-asks
+returns-in_ok-node-in-ENode-clause-asks g c = asks-built g.M.OwnSubst.substitutes c.args.method.now c.args.graph.now c.add_node.new.graph c.add_node.result c.add_node.ensures.builds
 
 pub returns-in-Some-clause-asks : goal.returns-in-Some-clause-asks
 returns-in-Some-clause-asks g c = asks-none g.M.OwnSubst.substitutes c.args.method.now c.args.graph.now c.copy-in-Some.result

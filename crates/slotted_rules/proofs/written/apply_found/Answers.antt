@@ -4,6 +4,7 @@ use Rattle.std.specs.Prelude.{string_bytes, ◌⊎◌, slice_index_or}
 use Rattle.slotted_patterns.specs.Tree.{PatternTree}
 use Rattle.slotted_patterns.specs.View.{tree_of}
 use Rattle.slotted_operations.specs.Graph.{Graph}
+use Rattle.slotted_graph.proofs.Extending.{extends-itself}
 use Rattle.slotted_rules.specs.Between.{AnswersBetween}
 use Rattle.slotted_rules.specs.Loops.{HasAppliedSome}
 use Rattle.slotted_rules.specs.Rewriting.{AreFromRule, BreaksOff, IsRefusedRewrite}
@@ -100,7 +101,7 @@ returns-in_err-apply_answer-clause-err g c =
     let q : PatternTree = tree_of form c.args.rule.now.right in
     let e = c.in_err-apply_answer.field-0.0 in
     let refuses = g.C.Cond.refuses c.args.rule.now.condition in
-    handed_err c.from_residual.result e c.from_residual.ensures.1 (λ x. IsShortage x ⊎ IsRefusedRewrite refuses q x)
+    handed_err c.from_residual-in_err-apply_answer.result e c.from_residual-in_err-apply_answer.ensures.1 (λ x. IsShortage x ⊎ IsRefusedRewrite refuses q x)
     (refused-rewrite (g.C.Cond.answers c.args.rule.now.condition) refuses q (slice_index_or c.args.found.now c.loop-answer.answer []) c.loop-answer.graph e c.in_err-apply_answer.ensures.err)
 
 pub returns-in_err-apply_answer-clause-left : goal.returns-in_err-apply_answer-clause-left
@@ -115,7 +116,25 @@ returns-in_err-apply_answer-clause-left g c =
     let e = c.in_err-apply_answer.field-0.0 in
     let f = c.loop-answer.graph in
     let h = c.apply_answer.new.graph in
-    handed_err c.from_residual.result e c.from_residual.ensures.1 (λ x. IsShortage x ⊎ BreaksOff holds refuses p q name found c.args.graph.now h x)
+    handed_err c.from_residual-in_err-apply_answer.result e c.from_residual-in_err-apply_answer.ensures.1 (λ x. IsShortage x ⊎ BreaksOff holds refuses p q name found c.args.graph.now h x)
     (breaks-off holds refuses p q name found c.loop-answer.answer c.loop-answer.united (omega (arith, c.loop-answer-test.true, c.len-answer-end.ensures)) c.args.graph.now f
     (answered-some g.N.Analysis.codes g.N.Analysis.meaning g.met.N.Analysis.is_merge holds p q name found c.loop-answer.answer c.loop-answer.united c.args.graph.now f c.loop-answer.invariant.so_far) h e
     (c.in_err-apply_answer.ensures.unchanged refl) (λ failed. c.in_err-apply_answer.ensures.fails failed) c.in_err-apply_answer.ensures.err)
+
+-- nothing is applied where the lists could not be made
+pub returns-in_err-sides-clause-held : goal.returns-in_err-sides-clause-held
+returns-in_err-sides-clause-held g c =
+    let form = g.L.LanguageChildren.form in
+    let g0 = c.args.graph.now in
+    inr (none-applied (AnswersBetween g.N.Analysis.codes g.N.Analysis.meaning (g.C.Cond.answers c.args.rule.now.condition) g0 g0) (tree_of form c.args.rule.now.left) (tree_of form c.args.rule.now.right) (string_bytes c.args.rule.now.name) c.args.found.now g0 c.requires.graph).origin
+
+pub returns-in_err-sides-clause-origin : goal.returns-in_err-sides-clause-origin
+returns-in_err-sides-clause-origin g c =
+    let form = g.L.LanguageChildren.form in
+    inr (none-applied (g.C.Cond.answers c.args.rule.now.condition) (tree_of form c.args.rule.now.left) (tree_of form c.args.rule.now.right) (string_bytes c.args.rule.now.name) c.args.found.now c.args.graph.now c.requires.graph).origin
+
+pub returns-in_err-sides-clause-extends : goal.returns-in_err-sides-clause-extends
+returns-in_err-sides-clause-extends g c = inr (extends-itself c.args.graph.now)
+
+pub returns-in_err-sides-clause-carries : goal.returns-in_err-sides-clause-carries
+returns-in_err-sides-clause-carries g c = inr (carries-itself g.N.Analysis.codes g.N.Analysis.meaning g.met.N.Analysis.is_merge c.args.graph.now)

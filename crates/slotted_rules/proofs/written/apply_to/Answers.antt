@@ -28,11 +28,11 @@ returns-clause-err g c = if-err-mapped c.unite.result c.unite.ensures.err (λ e 
 pub returns-then-not-branch-clause-carries : goal.returns-then-not-branch-clause-carries
 returns-then-not-branch-clause-carries g c = inr (carries-itself g.N.Analysis.codes g.N.Analysis.meaning g.met.N.Analysis.is_merge c.args.graph.now)
 
-pub returns-then-not-right_is_whole-clause-err : goal.returns-then-not-right_is_whole-clause-err
-returns-then-not-right_is_whole-clause-err g c =
+pub returns-then-not-sides-clause-err : goal.returns-then-not-sides-clause-err
+returns-then-not-sides-clause-err g c =
     let q : PatternTree = tree_of g.L.LanguageChildren.form c.args.rule.now.right in
     let held = subst (g.C.Cond.answers c.args.rule.now.condition (values_of c.args.subst.now) c.args.graph.now) c.if-not-branch.false c.in_ok-holds.ensures.ok in
-    inr (inr (held, tt, none-of (pattern_in q) (λ w. false≢true (sym c.if-not-right_is_whole.true ∙ c.requires.right.1 w))))
+    inr (inr (held, tt, none-of (pattern_in q) (λ w. false≢true (sym c.if-not-sides.true ∙ c.requires.right.1 w))))
 
-pub returns-then-not-right_is_whole-clause-carries : goal.returns-then-not-right_is_whole-clause-carries
-returns-then-not-right_is_whole-clause-carries g c = inr (carries-itself g.N.Analysis.codes g.N.Analysis.meaning g.met.N.Analysis.is_merge c.args.graph.now)
+pub returns-then-not-sides-clause-carries : goal.returns-then-not-sides-clause-carries
+returns-then-not-sides-clause-carries g c = inr (carries-itself g.N.Analysis.codes g.N.Analysis.meaning g.met.N.Analysis.is_merge c.args.graph.now)
