@@ -1,9 +1,9 @@
 -- A node whose children are set from the last one on, to the ids at the end of a list.
-use Rattle.std.proofs.Common.{◌≡◌, ◌∙◌, ap, refl, sym, subst, ℕ, zero, suc, ◌+◌, ◌-◌, ◌<◌, ◌≤◌, List, [], ◌∷◌, ◌++◌, length, map, take, drop, arith, append_assoc, append-nil, length-append, length-drop, length-take, zero-add, inl, inr, slice_index}
+use Rattle.std.proofs.Common.{◌≡◌, ◌∙◌, ap, refl, sym, ℕ, zero, suc, ◌+◌, ◌-◌, ◌<◌, ◌≤◌, List, [], ◌∷◌, ◌++◌, length, map, take, drop, arith, append_assoc, append-nil, length-append, length-drop, length-take, zero-add, inl, inr, slice_index}
 use Rattle.std.specs.Prelude.{Option, None, set}
 use Rattle.std.proofs.lemmas.Bool.{cases_lt}
 use Rattle.std.proofs.lemmas.Grind.{common_steps}
-use Rattle.std.proofs.lemmas.List.{drop-set-add, drop-set-lt, drop_all, drop_at, length-map, length-set, set_split, take-append-drop, take-set-le, take_all, take_at}
+use Rattle.std.proofs.lemmas.List.{drop-set-add, drop-set-lt, drop_all, drop_at, length-map, take-append-drop, take-set-le, take_all, take_at}
 use Rattle.std.proofs.Math.Nat.{sub-zero}
 use Rattle.slotted_slots.specs.Maps.{keys, values}
 use Rattle.slotted_nodes.specs.Equal.{bind_form_fits, form_ext}
@@ -16,7 +16,7 @@ use Rattle.slotted_classes.specs.ChildIds.{child_ids}
 use Rattle.slotted_classes.proofs.ChildIds.{length-ids}
 use Rattle.slotted_lookup.specs.Filling.{tree_over, names_over, node_over}
 use Rattle.slotted_lookup.proofs.NodesOver.{length-over, names_fit, node_over-own, over_fits}
-use Rattle.slotted_rules.specs.Stacked.{ids_before, last_ids, over_ids}
+use Rattle.slotted_rules.specs.Stacked.{ids_before, over_ids}
 
 part : Tree → List ℕ → Form
 part t xs = record { operator = 0; payloads = []; tree = t; names = xs }

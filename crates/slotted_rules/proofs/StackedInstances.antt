@@ -1,13 +1,11 @@
 -- Instances on a stack: those of the parts of a pattern give way to one of the pattern.
-use Rattle.std.proofs.Common.{◌≡◌, ◌∙◌, ap, refl, sym, subst, ℕ, zero, suc, ◌+◌, ◌-◌, ◌<◌, ◌≤◌, List, [], ◌∷◌, ◌++◌, length, get_or, map, take, drop, arith, append_assoc, append-nil, length-append, length-drop}
+use Rattle.std.proofs.Common.{◌≡◌, ◌∙◌, ap, refl, sym, subst, ℕ, zero, suc, ◌+◌, ◌-◌, ◌<◌, ◌≤◌, List, [], ◌∷◌, ◌++◌, length, get_or, map, take, drop, arith, append_assoc, length-append, length-drop}
 use Rattle.std.specs.Prelude.{All, Some, true}
 use Rattle.std.proofs.lemmas.List.{get_or-map, length-map, take-append-drop, take_all, take_more}
 use Rattle.std.proofs.lemmas.List.Elements.{All-drop}
 use Rattle.std.proofs.Math.Seq.{get_or-append_seam, take-append_seam}
-use Rattle.slotted_slots.specs.Maps.{keys, values}
-use Rattle.slotted_slots.specs.declared.types.AppliedId.{AppliedId}
 use Rattle.slotted_slots.specs.Table.{Table, AllKnown}
-use Rattle.slotted_nodes.specs.Form.{Form, children, with_applied, with_child}
+use Rattle.slotted_nodes.specs.Form.{Form, children}
 use Rattle.slotted_languages.specs.Shape.{Fits}
 use Rattle.slotted_patterns.specs.Known.{AreKnown, HaveKnownNames}
 use Rattle.slotted_patterns.specs.Subpatterns.{before_parts, parts, patterns_in as row_list, subpatterns, EndsInParts}
@@ -20,10 +18,9 @@ use Rattle.slotted_model_rules.specs.Patterns.{Pattern}
 use Rattle.slotted_rule_patterns.specs.PatternCode.{pattern_in, patterns_in}
 use Rattle.slotted_rule_patterns.specs.Variables.{has_value, variables_of, variables_of_row}
 use Rattle.slotted_rule_patterns.proofs.Parts.{node-parts, first-parts}
-use Rattle.slotted_proofs.specs.Equations.{to_applied}
 use Rattle.slotted_classes.specs.ChildIds.{child_ids}
 use Rattle.slotted_lookup.specs.Filling.{node_over}
-use Rattle.slotted_lookup.proofs.NodesOver.{child_ids-over, length-over, node_over-more, node_over-none}
+use Rattle.slotted_lookup.proofs.NodesOver.{child_ids-over}
 use Rattle.slotted_graph.specs.Adding.{AddsSyn}
 use Rattle.slotted_graph.specs.Graph.{Graph, IsFullId}
 use Rattle.slotted_graph.specs.States.{IsGraph}

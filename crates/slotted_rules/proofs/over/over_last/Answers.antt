@@ -1,6 +1,6 @@
-use Rattle.std.proofs.Common.{◌≤◌, ◌-◌, length, map, arith}
+use Rattle.std.proofs.Common.{map, arith}
 use Rattle.std.proofs.lemmas.List.{length-map}
-use Rattle.slotted_nodes.specs.Form.{Form, children}
+use Rattle.slotted_nodes.specs.Form.{Form}
 use Rattle.slotted_patterns.proofs.PatternCopies.{mapped_last}
 use Rattle.slotted_proofs.specs.Equations.{to_applied}
 use Rattle.slotted_rules.proofs.LastIds.{sets-end, sets-some, sets-start, sets-step, sets-within}
