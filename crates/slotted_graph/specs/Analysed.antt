@@ -102,7 +102,8 @@ DataComes given meaning older h newer =
     Grounds (by_bare_nodes (meaning older.analysis)) h.image.canonical (class_found h.image) (IsOldOr given older.values) newer.values
 
 -- what h keeps, where g keeps this
-pub record LowersPartWith {N D : Type 0} (given : List (ℕ × D)) (codes : Coded N × Coded D) (meaning : N → Meaning D) (g : Graph) (older : Part N D) (h : Graph) : Type 0 where
+pub record LowersPartWith {N D : Type 0} (given : List (ℕ × D)) (codes : Coded N × Coded D) (meaning : N → Meaning D) (g : Graph) (older : Part N D)
+    (h : Graph) : Type 0 where
   pub newer : Part N D
   pub after : KeepsPart codes h newer
   pub analysis : newer.analysis ≡ older.analysis

@@ -30,7 +30,8 @@ pub record IsAskedIn {L N D : Type 0} (codes : Coded N × Coded D) (ask : Asks L
   pub asked : ask analysis datum (slots_used g.image c) e
 
 -- the analysis and the data of the moment are those that the calls left: they come from those of g, and those of h come from them
-pub record IsAskedBetweenWith {L N D : Type 0} (given : List (ℕ × D)) (codes : Coded N × Coded D) (meaning : N → Meaning D) (ask : Asks L N D) (g h : Graph) (pair : DTerm × DTerm) : Type 0 where
+pub record IsAskedBetweenWith {L N D : Type 0} (given : List (ℕ × D)) (codes : Coded N × Coded D) (meaning : N → Meaning D) (ask : Asks L N D)
+    (g h : Graph) (pair : DTerm × DTerm) : Type 0 where
   pub moment : Graph
   pub between : IsBetween g h moment
   pub down : LowersDataWith given codes meaning g moment

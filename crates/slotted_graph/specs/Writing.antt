@@ -58,7 +58,8 @@ pub record AddsMore {N D : Type 0} (codes : Coded N × Coded D) (meaning : N →
   pub carries : CarriesData codes meaning g h
   pub made : W g h
 
-pub record LeavesAskedWith {L N D : Type 0} (given : List (ℕ × D)) (codes : Coded N × Coded D) (meaning : N → Meaning D) (ask : Asks L N D) (g h : Graph) : Type 0 where
+pub record LeavesAskedWith {L N D : Type 0} (given : List (ℕ × D)) (codes : Coded N × Coded D) (meaning : N → Meaning D) (ask : Asks L N D)
+    (g h : Graph) : Type 0 where
   pub extends : ExtendsTo g h
   pub asserts : AssertsMore (IsAskedBetweenWith given codes meaning ask g h) g h
   pub lowers : LowersDataWith given codes meaning g h
