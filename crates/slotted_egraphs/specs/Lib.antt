@@ -2,7 +2,7 @@
 --     terms: Term, Nameless, Derives, Valid          slots: Table, Error, Maps
 --     ids and classes: Applied, Classes, Growth, Ids     the graph: Graph, ValidIds, LookUp, Adding, AddingTerms, Reports, Affected, Image, Nodes, Checks,
 --     Leaves, Causes, Syn, FiledNodes, Measure     extraction: Costs, Laws, Terms, LeastTerms, Chosen
---     analyses: Meaning, Edits, Part, Analysed, Asked, Edited, Rounds, Writing     patterns: Known, PatternCode, Variables, Values     rules: Extension, Matching, Methods, Uniting, Rewriting, Written, Applying, EqualInstances,
+--     analyses: Meaning, Edits, Part, Grounded, Analysed, Asked, Edited, Rounds, Writing     patterns: Known, PatternCode, Variables, Values     rules: Extension, Matching, Methods, Uniting, Rewriting, Written, Applying, EqualInstances,
 --     Counting, RuleOrigins, Unless     runs: Seen, Turning, Runs, Eqsat, Counted, RunOrigins
 pub use Rattle.slotted_theory.specs.Term
 pub use Rattle.slotted_theory.specs.Nameless
@@ -46,6 +46,7 @@ pub use Rattle.slotted_explain.specs.Measure
 pub use Rattle.slotted_analyses.specs.Meaning
 pub use Rattle.slotted_analyses.specs.Edits
 pub use Rattle.slotted_data.specs.Part
+pub use Rattle.slotted_data.specs.Grounded
 pub use Rattle.slotted_graph.specs.Analysed
 pub use Rattle.slotted_graph.specs.Asked
 pub use Rattle.slotted_graph.specs.Edited
