@@ -1,6 +1,8 @@
 use Rattle.std.proofs.Common.{inr}
 use Rattle.std.proofs.lemmas.Bool.{false≢true}
+use Rattle.slotted_proofs.specs.Equations.{to_applied}
 use Rattle.slotted_operations.proofs.CallerLemmas.{term_later}
+use Rattle.slotted_deciding.proofs.Asked.{stands-later}
 use Rattle.slotted_deciding.proofs.Growing.{leads-then, leads-with}
 use Rattle.slotted_deciding.proofs.Unions.{goes-added, good-graph}
 use Rattle.slotted_graph.proofs.Saying.{carried-lowers}
@@ -19,3 +21,11 @@ returns-clause-goes g c =
     leads-then g.N.Analysis.codes g.N.Analysis.meaning g.met.N.Analysis.is_merge start k h one
     (leads-with g.N.Analysis.codes g.N.Analysis.meaning k h (goes-added k h (good-graph h (λ bad. false≢true (c.in_ok-two.ensures.fails.0 bad)) c.is_failed-2.ensures.rests) c.in_ok-two.ensures.extends c.in_ok-two.ensures.adds c.add_syn_expr_quietly-2.ensures.more)
     (carried-lowers g.N.Analysis.codes g.N.Analysis.meaning k h c.in_ok-two.ensures.carries))
+
+pub returns-clause-left : goal.returns-clause-left
+returns-clause-left g c =
+    let k = c.add_syn_expr_quietly.new.self in
+    let h = c.add_syn_expr_quietly-2.new.self in
+    stands-later k h (to_applied c.in_ok-one.one) c.args.left.now
+    (goes-added k h (good-graph h (λ bad. false≢true (c.in_ok-two.ensures.fails.0 bad)) c.is_failed-2.ensures.rests) c.in_ok-two.ensures.extends c.in_ok-two.ensures.adds c.add_syn_expr_quietly-2.ensures.more)
+    (record { full = c.in_ok-one.ensures.valid; term = c.in_ok-one.ensures.term })
