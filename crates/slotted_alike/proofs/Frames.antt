@@ -2,17 +2,18 @@
 use Rattle.std.proofs.Common.{◌≡◌, ℕ, zero, suc, ◌<◌, ◌+◌, List, [], ◌∷◌, ◌++◌, length, take, drop, refl, slice_index, slice_index_or, ap, ◌∙◌, sym, subst, inl, inr, arith, length-append}
 use Rattle.std.specs.Prelude.{map, All, ◌⊎◌}
 use Rattle.std.specs.List.{zip}
+use Rattle.slotted_lists.proofs.Contained.{append_parts}
+use Rattle.slotted_lists.proofs.Lists.{take-append, drop-append}
+use Rattle.slotted_lists.proofs.Maps.{zip-with_values, IsInjectiveMap-before}
 use Rattle.slotted_theory.specs.FiniteMaps.{IsInjectiveMap, with_values}
 use Rattle.slotted_theory.specs.Nameless.{nameless_args}
 use Rattle.slotted_theory.specs.Shape.{number_in}
-use Rattle.slotted_theory.proofs.Lists.{append_parts}
 use Rattle.slotted_nodes.specs.Form.{Form, Tree, leaf, own, child, bind, scopes, children}
 use Rattle.slotted_languages.specs.NodeTerm.{node_args, nameless_node}
 use Rattle.slotted_languages.specs.NodeTerm as node
 use Rattle.slotted_languages.specs.Outline.{outlined, outlined_names}
 use Rattle.slotted_languages.proofs.Outlines.{length_children-outlined, length-outlined_names, outlined-outlined}
 use Rattle.slotted_model.specs.Applied.{Applied, own_names, applied_of}
-use Rattle.slotted_model.proofs.Correspondences.FullMaps.{HasValue-at, at_HasValue, with_values-by}
 use Rattle.slotted_proofs.specs.declared.equation.Equation.{Equation as Sides}
 use Rattle.slotted_proofs.specs.AlikeNodes.{AreAlikeArgs}
 use Rattle.slotted_proofs.specs.Equations.{to_applied}
@@ -148,18 +149,6 @@ alike_twins bs cs u v xs ys es h = absurd h
 
 -- by outlines
 
-take_all : {X : Type 0} (us vs : List X) (n : ℕ) → length us ≡ n → take n (us ++ vs) ≡ us
-take_all [] vs zero e = refl
-take_all [] vs (suc n) e = absurd (omega arith)
-take_all (x ∷ us) vs zero e = absurd (omega arith)
-take_all (x ∷ us) vs (suc n) e = ap (λ r. x ∷ r) (take_all us vs n (omega arith))
-
-drop_all : {X : Type 0} (us vs : List X) (n : ℕ) → length us ≡ n → drop n (us ++ vs) ≡ vs
-drop_all [] vs zero e = refl
-drop_all [] vs (suc n) e = absurd (omega arith)
-drop_all (x ∷ us) vs zero e = absurd (omega arith)
-drop_all (x ∷ us) vs (suc n) e = drop_all us vs n (omega arith)
-
 pub owns-outlined : (bs : List ℕ) (u : Tree) (xs : List ℕ) → owns bs (outlined u) (outlined_names 0 u xs) ≡ owns_of bs u xs
 owns-outlined bs leaf xs = refl
 owns-outlined bs (own r) xs = ap (λ l. suc (number_in bs (slice_index xs 0)) ∷ l) (owns-outlined bs r (drop 1 xs))
@@ -169,7 +158,7 @@ owns-outlined bs (bind u r) xs =
     let us = outlined_names 0 u (take n (drop 1 xs)) in
     let rs = outlined_names 0 r (drop n (drop 1 xs)) in
     let l : length us ≡ length (scopes (outlined (outlined u))) = length-outlined_names 0 u (take n (drop 1 xs)) ∙ sym (ap (λ t. length (scopes t)) (outlined-outlined u)) in
-    (λ i. 0 ∷ owns (slice_index xs 0 ∷ bs) (outlined u) (take_all us rs (length (scopes (outlined (outlined u)))) l i) ++ owns bs (outlined r) (drop_all us rs (length (scopes (outlined (outlined u)))) l i))
+    (λ i. 0 ∷ owns (slice_index xs 0 ∷ bs) (outlined u) (take-append us rs (length (scopes (outlined (outlined u)))) l i) ++ owns bs (outlined r) (drop-append us rs (length (scopes (outlined (outlined u)))) l i))
     ∙ (λ i. 0 ∷ owns-outlined (slice_index xs 0 ∷ bs) u (take n (drop 1 xs)) i ++ owns-outlined bs r (drop n (drop 1 xs)) i)
 
 pub stacks-outlined : (bs : List ℕ) (u : Tree) (xs : List ℕ) → stacks bs (outlined u) (outlined_names 0 u xs) ≡ stacks_of bs u xs
@@ -181,7 +170,7 @@ stacks-outlined bs (bind u r) xs =
     let us = outlined_names 0 u (take n (drop 1 xs)) in
     let rs = outlined_names 0 r (drop n (drop 1 xs)) in
     let l : length us ≡ length (scopes (outlined (outlined u))) = length-outlined_names 0 u (take n (drop 1 xs)) ∙ sym (ap (λ t. length (scopes t)) (outlined-outlined u)) in
-    (λ i. stacks (slice_index xs 0 ∷ bs) (outlined u) (take_all us rs (length (scopes (outlined (outlined u)))) l i) ++ stacks bs (outlined r) (drop_all us rs (length (scopes (outlined (outlined u)))) l i))
+    (λ i. stacks (slice_index xs 0 ∷ bs) (outlined u) (take-append us rs (length (scopes (outlined (outlined u)))) l i) ++ stacks bs (outlined r) (drop-append us rs (length (scopes (outlined (outlined u)))) l i))
     ∙ (λ i. stacks-outlined (slice_index xs 0 ∷ bs) u (take n (drop 1 xs)) i ++ stacks-outlined bs r (drop n (drop 1 xs)) i)
 
 length-owns_of : (bs cs : List ℕ) (u v : Tree) (xs ys : List ℕ) → outlined u ≡ outlined v → length (owns_of bs u xs) ≡ length (owns_of cs v ys)
@@ -245,11 +234,6 @@ twins_owns bs cs u v xs ys h = absurd h
 
 -- the child k below its binders
 
-zip_numbered : (f : ℕ → ℕ) (ks vs : List ℕ) → zip ks (map f vs) ≡ with_values f (zip ks vs)
-zip_numbered f [] vs = refl
-zip_numbered f (k ∷ ks) [] = refl
-zip_numbered f (k ∷ ks) (v ∷ vs) = ap (λ r. (k, f v) ∷ r) (zip_numbered f ks vs)
-
 -- each id below its own binders
 abbrev each_under : List (List ℕ) → List Applied → List Applied
 each_under [] ids = []
@@ -276,7 +260,7 @@ length-stacks_of bs (bind u r) xs =
 ids_under-each : (bs : List ℕ) (u : Tree) (xs : List ℕ) → ids_under bs u xs ≡ each_under (stacks_of bs u xs) (ids_in u xs)
 ids_under-each bs leaf xs = refl
 ids_under-each bs (own r) xs = ids_under-each bs r (drop 1 xs)
-ids_under-each bs (child i ks r) xs = λ j. (i, zip_numbered (number_in bs) ks (take (length ks) xs) j) ∷ ids_under-each bs r (drop (length ks) xs) j
+ids_under-each bs (child i ks r) xs = λ j. (i, zip-with_values (number_in bs) ks (take (length ks) xs) j) ∷ ids_under-each bs r (drop (length ks) xs) j
 ids_under-each bs (bind u r) xs =
     let a = stacks_of (slice_index xs 0 ∷ bs) u (take (length (scopes u)) (drop 1 xs)) in
     let a' = stacks_of bs r (drop (length (scopes u)) (drop 1 xs)) in
@@ -359,16 +343,6 @@ first_match-more ids bs cs k c h m = record {
     last (y ∷ cs) c zero x l = absurd (omega arith)
     last (y ∷ cs) c (suc j) x l = last cs c j x (omega arith)
 
--- names that are apart after a renaming were apart before
-pub injective_before : (f : ℕ → ℕ) (m : List (ℕ × ℕ)) → IsInjectiveMap (with_values f m) → IsInjectiveMap m
-injective_before f [] i = tt
-injective_before f (p ∷ m) i = (
-  λ h.
-      let r = at_HasValue m p.1 h in
-      i.0 (HasValue-at (with_values f m) r.0 (f p.1) (with_values-by f m r.0 p.1 r.1)),
-  injective_before f m i.1,
-)
-
 -- nodes that are alike but for their children
 
 pub forms_twins : (f g : Form) (cs : List Sides) → AreAlikeForms f g cs → AreTwins [] [] f.tree g.tree f.names g.names × MatchInTurn (ids_under [] f.tree f.names) (ids_under [] g.tree g.names) cs
@@ -433,7 +407,7 @@ module _ (f g : Form) (cs : List Sides) (once : All HasInjectiveSides cs) (h : A
       let r = match_at (ids_under [] f.tree f.names) (ids_under [] g.tree g.names) cs (forms_twins f g cs h).1 k a a some (omega arith) in
       let s : List ℕ = slice_index_or (stacks [] (outlined f.tree) (outlined_names 0 f.tree f.names)) k [] in
       let q : slice_index_or (ids_under [] f.tree f.names) k a ≡ under s a = id_under-at [] f.tree f.names k [] a a (let m : length (ids_in f.tree f.names) ≡ length (children f.tree) = length-ids f.tree f.names in omega arith) ∙ ap (under s) (sym e) in
-      injective_before (number_in s) a.1 (injective_before r.1.names.name (with_values (number_in s) a.1)
+      IsInjectiveMap-before (number_in s) a.1 (IsInjectiveMap-before r.1.names.name (with_values (number_in s) a.1)
       (subst IsInjectiveMap (r.1.names.left ∙ ap (λ (z : Applied). with_values r.1.names.name z.1) q) (once k some r.0).left))
 
   pub right_apart : k < length (children g.tree) → k < length (children f.tree) → a ≡ slice_index_or (child_ids g) k a → IsInjectiveMap a.1
@@ -442,7 +416,7 @@ module _ (f g : Form) (cs : List Sides) (once : All HasInjectiveSides cs) (h : A
       let r = match_at (ids_under [] f.tree f.names) (ids_under [] g.tree g.names) cs (forms_twins f g cs h).1 k a a some (omega arith) in
       let s : List ℕ = slice_index_or (stacks [] (outlined g.tree) (outlined_names 0 g.tree g.names)) k [] in
       let q : slice_index_or (ids_under [] g.tree g.names) k a ≡ under s a = id_under-at [] g.tree g.names k [] a a (let m : length (ids_in g.tree g.names) ≡ length (children g.tree) = length-ids g.tree g.names in omega arith) ∙ ap (under s) (sym e) in
-      injective_before (number_in s) a.1 (injective_before r.1.names.name (with_values (number_in s) a.1)
+      IsInjectiveMap-before (number_in s) a.1 (IsInjectiveMap-before r.1.names.name (with_values (number_in s) a.1)
       (subst IsInjectiveMap (r.1.names.right ∙ ap (λ (z : Applied). with_values r.1.names.name z.1) q) (once k some r.0).right))
 
 -- one more equation whose sides are injective

@@ -1,5 +1,6 @@
 -- Partners of slots below binders: the pairs of slots to which two maps of names give one number.
 use Rattle.std.proofs.Common.{◌≡◌, ◌≢◌, ℕ, List, [], ◌∷◌, ◌++◌, Some, None, sym, ap, ◌∙◌, subst, refl, append_assoc}
+use Rattle.slotted_lists.proofs.Maps.{value_of-first, value_of-rest}
 use Rattle.slotted_slots.specs.Ascending.{AllAbove, IsAscending}
 use Rattle.slotted_slots.specs.Maps.{with_pair}
 use Rattle.slotted_theory.specs.FiniteMaps.{IsInjectiveMap, value_of}
@@ -8,7 +9,6 @@ use Rattle.slotted_theory.proofs.Shapes.{number_in-injective}
 use Rattle.slotted_model.specs.Applied.{Applied, keys}
 use Rattle.slotted_model.specs.Correspondence.{IsFullMap, IsPartialInjection, flipped, same_names, turned}
 use Rattle.slotted_model.proofs.Correspondences.FullMaps.{same_names-partial, same_names-turned, with_values-full, with_values-keys}
-use Rattle.slotted_model.proofs.Correspondences.Pairs.{value_of-same, value_of-other}
 use Rattle.slotted_proofs.specs.declared.equation.Equation.{Equation as Sides}
 use Rattle.slotted_proofs.specs.Equations.{Statement, equality, to_applied, AreSides}
 use Rattle.slotted_proofs.specs.Steps.{HasInjectiveSides, Matches}
@@ -21,12 +21,12 @@ use Rattle.slotted_alike.specs.Frames.{numbers_under, under}
 -- the first of the pairs that are left has the number
 pub partner_found : (bs : List ℕ) (left rest more : List (ℕ × ℕ)) (n s x : ℕ) → value_of (flipped (numbers_under bs left)) n ≡ value_of (flipped (numbers_under bs rest)) n → rest ≡ (s, x) ∷ more → number_in bs x ≡ n → Some s ≡ value_of (flipped (numbers_under bs left)) n
 partner_found bs left rest more n s x e f g =
-    sym (e ∙ (ap (λ m. value_of (flipped (numbers_under bs m)) n) f ∙ value_of-same (number_in bs x, s) (flipped (numbers_under bs more)) n (sym g)))
+    sym (e ∙ (ap (λ m. value_of (flipped (numbers_under bs m)) n) f ∙ value_of-first (number_in bs x, s) (flipped (numbers_under bs more)) n (sym g)))
 
 -- or it has not
 pub partner_next : (bs : List ℕ) (left rest more : List (ℕ × ℕ)) (n s x : ℕ) → value_of (flipped (numbers_under bs left)) n ≡ value_of (flipped (numbers_under bs rest)) n → rest ≡ (s, x) ∷ more → number_in bs x ≢ n → value_of (flipped (numbers_under bs left)) n ≡ value_of (flipped (numbers_under bs more)) n
 partner_next bs left rest more n s x e f g =
-    e ∙ (ap (λ m. value_of (flipped (numbers_under bs m)) n) f ∙ value_of-other (number_in bs x, s) (flipped (numbers_under bs more)) n (λ h. g (sym h)))
+    e ∙ (ap (λ m. value_of (flipped (numbers_under bs m)) n) f ∙ value_of-rest (number_in bs x, s) (flipped (numbers_under bs more)) n (λ h. g (sym h)))
 
 -- what is paired so far, and what is left to pair
 pub record Pairing (whole so_far rest : List (ℕ × ℕ)) (bs : List ℕ) (A : List (ℕ × ℕ)) : Type 0 where

@@ -1,14 +1,14 @@
 -- Where comparing two nodes runs out of slots, one of them is wide.
-use Rattle.std.proofs.Common.{◌≡◌, ◌≤◌, ◌+◌, ◌^◌, ℕ, suc, List, [], ◌∷◌, length, take, drop, sym, ◌∙◌, ap, refl, subst, arith, inl, inr, length-append, length-drop}
+use Rattle.std.proofs.Common.{◌≡◌, ◌≤◌, ◌+◌, ◌^◌, ℕ, List, [], ◌∷◌, length, take, drop, sym, ◌∙◌, ap, refl, subst, arith, inl, inr, length-append, length-drop}
 use Rattle.std.specs.Prelude.{◌⊎◌, Contains, min, slice_index}
 use Rattle.std.specs.List.{zip}
 use Rattle.std.proofs.lemmas.Bool.{cases_lt}
 use Rattle.std.proofs.lemmas.List.{length-take}
 use Rattle.std.proofs.lemmas.List.Elements.{Contains-append_cases}
 use Rattle.std.proofs.lemmas.Slice.Zip.{length-zip}
-use Rattle.slotted_theory.specs.FiniteMaps.{with_values}
+use Rattle.slotted_lists.proofs.Contained.{contains_cases, Contains-nil}
+use Rattle.slotted_lists.proofs.Maps.{length-with_values, length-values}
 use Rattle.slotted_theory.specs.Nameless.{DArgs, stop, place, sub, scope, extend, lift, moved_args, nameless_args}
-use Rattle.slotted_theory.proofs.Lists.{contains_cases, Contains-nil}
 use Rattle.slotted_slots.specs.Maps.{values}
 use Rattle.slotted_nodes.specs.Form.{Form, Tree, leaf, own, child, bind, scopes, child_names, child_place, width}
 use Rattle.slotted_languages.specs.NodeTerm.{node_args, nameless_node}
@@ -23,7 +23,6 @@ use Rattle.slotted_proofs.specs.Equations.{to_applied}
 use Rattle.slotted_proofs.specs.Steps.{IsLarge, Matches, name_count}
 use Rattle.slotted_outlines.specs.Seen as seen
 use Rattle.slotted_alike.specs.Frames.{AreAlikeForms}
-use Rattle.slotted_classes.proofs.NameMaps.{length-values}
 
 length-taken : (n p : ℕ) (xs : List ℕ) → length (take n (drop p xs)) ≤ length xs
 length-taken n p xs = omega (arith, length-take n (drop p xs), length-drop p xs)
@@ -55,10 +54,6 @@ size-moved f (scope inner rest) = λ i. 1 + size-moved (lift f) inner i + size-m
 
 -- the equation of two children has no more names than their nodes
 
-length-named : (f : ℕ → ℕ) (m : List (ℕ × ℕ)) → length (with_values f m) ≡ length m
-length-named f [] = refl
-length-named f (p ∷ m) = ap suc (length-named f m)
-
 own_fit : (d : DArgs) → length (own_names d) ≤ args_size d
 own_fit stop = omega arith
 own_fit (place x rest) = omega (arith, own_fit rest)
@@ -74,8 +69,8 @@ applied_fits ((i ∷ ks) ∷ more) d =
 
 matched_fits : (p r : List (List ℕ)) (a b : DArgs) (c : Sides) → Matches (applied_of p a) (applied_of r b) (to_applied c.l) (to_applied c.r) → name_count c ≤ args_size a + args_size b
 matched_fits p r a b c m =
-    let l : length c.l.m ≡ length (applied_of p a).1 = ap length m.names.left ∙ length-named m.names.name (applied_of p a).1 in
-    let q : length c.r.m ≡ length (applied_of r b).1 = ap length m.names.right ∙ length-named m.names.name (applied_of r b).1 in
+    let l : length c.l.m ≡ length (applied_of p a).1 = ap length m.names.left ∙ length-with_values m.names.name (applied_of p a).1 in
+    let q : length c.r.m ≡ length (applied_of r b).1 = ap length m.names.right ∙ length-with_values m.names.name (applied_of r b).1 in
     omega (arith, l, q, applied_fits p a, applied_fits r b)
 
 child_fits : (d e : DArgs) (cs : List Sides) → AreAlikeArgs d e cs → (c : Sides) → Contains cs c → name_count c ≤ args_size d + args_size e

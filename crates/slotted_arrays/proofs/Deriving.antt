@@ -1,11 +1,11 @@
 -- What calls of a workspace say of the terms of handles, said of the terms of their texts.
 use Rattle.std.proofs.Common.{◌≡◌, ◌∙◌, ℕ, List, ap, refl, subst, sym}
 use Rattle.std.specs.Prelude.{Option, Some}
+use Rattle.slotted_lists.proofs.Options.{Some-same}
 use Rattle.slotted_slots.specs.declared.error.Error.{Error}
 use Rattle.slotted_slots.specs.Syntax.{Element}
 use Rattle.slotted_theory.specs.Term.{Term}
 use Rattle.slotted_nodes.specs.Form.{Form}
-use Rattle.slotted_model.proofs.Data.Options.{Some-same}
 use Rattle.slotted_workspace.specs.Asked.{AddsTerm, ChangesGraph, OfBoth, OfOne, RefusesOne}
 use Rattle.slotted_workspace.specs.Spaces.{Space, term_at}
 use Rattle.slotted_workspace.specs.declared.error.WorkspaceError.{WorkspaceError}

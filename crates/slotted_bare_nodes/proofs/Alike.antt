@@ -18,7 +18,7 @@ bare-moved f inj d = alike-moved f inj d
 pub bare-shape : (d : DTerm) → bare (shape d) ≡ bare d
 bare-shape d = bare-moved (number_in (free_names d.args)) (number_in-injective (free_names d.args)) d
 
-count-moved : (f : ℕ → ℕ) (d : DArgs) → child_count (moved_args f d) ≡ child_count d
+pub count-moved : (f : ℕ → ℕ) (d : DArgs) → child_count (moved_args f d) ≡ child_count d
 count-moved f stop = refl
 count-moved f (place x rest) = count-moved f rest
 count-moved f (sub op payloads args rest) = ap suc (count-moved f rest)

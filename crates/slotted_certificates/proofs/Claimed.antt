@@ -2,8 +2,8 @@
 use Rattle.std.proofs.Common.{ℕ, List, [], ◌∷◌, sym, subst, inl, inr}
 use Rattle.std.specs.Prelude.{Bool, All, Contains}
 use Rattle.std.proofs.lemmas.List.Elements.{All-contains}
+use Rattle.slotted_lists.proofs.Contained.{Contains-nil, contains_cases, contains_head, contains_tail}
 use Rattle.slotted_theory.specs.Term.{Term}
-use Rattle.slotted_theory.proofs.Lists.{Contains-nil, contains_cases, contains_head, contains_tail}
 use Rattle.slotted_check.specs.declared.steps.Equation.{Equation}
 use Rattle.slotted_check.specs.Derived.{IsDerived, IsOneOf}
 use Rattle.slotted_certificates.specs.declared.tokens.Token.{Token}

@@ -8,20 +8,7 @@ use Rattle.slotted_languages.specs.Filled.{filled, term_of}
 use Rattle.slotted_languages.specs.Outline.{outlined, outlined_form, outlined_names}
 use Rattle.slotted_languages.proofs.Outlines.{filled-outlined, length_children-outlined}
 use Rattle.slotted_terms.specs.Valid.{IsWhole}
-
--- a node of a whole term has a term for each child
-pub filled_count : (u : Tree) (xs : List ℕ) (ts : List Term) → IsWhole (filled u xs ts) → length ts ≡ length (children u)
-filled_count leaf xs [] w = refl
-filled_count leaf xs (t ∷ ts) w = absurd (omega (arith, w.0))
-filled_count (own r) xs ts w = filled_count r (drop 1 xs) ts w
-filled_count (child i ks r) xs [] w = absurd (omega (arith, w.0))
-filled_count (child i ks r) xs (t ∷ ts) w = ap suc (filled_count r (drop (length ks) xs) ts w.2)
-filled_count (bind u r) xs ts w =
-    let n = length (children u) in
-    let m = length (scopes u) in
-    let inner = filled_count u (take m (drop 1 xs)) (take n ts) w.0 in
-    let rest = filled_count r (drop m (drop 1 xs)) (drop n ts) w.1 in
-    omega (arith, inner, rest, length-take n ts, length-drop n ts, length-append (children u) (children r))
+use Rattle.slotted_terms.proofs.TermPatterns.{whole_count}
 
 pub record SameParts (u v : Tree) (xs ys : List ℕ) (ts us : List Term) : Type 0 where
   pub tree : outlined u ≡ outlined v
@@ -99,12 +86,12 @@ pub record SameNode (f g : Form) (ts us : List Term) : Type 0 where
 pub same_node : (f g : Form) (ts us : List Term) → term_of f ts ≡ term_of g us → IsWhole (term_of f ts).args → SameNode f g ts us
 same_node f g ts us h w =
     let args = ap (λ (t : Term). t.args) h in
-    let parts = filled_parts f.tree g.tree f.names g.names ts us (filled_count f.tree f.names ts w) (filled_count g.tree g.names us (subst IsWhole args w)) args in
+    let parts = filled_parts f.tree g.tree f.names g.names ts us (whole_count f.tree f.names ts w) (whole_count g.tree g.names us (subst IsWhole args w)) args in
     let operator : f.operator ≡ g.operator = suc_inj (ap (λ (t : Term). t.op) h) in
     let payloads : f.payloads ≡ g.payloads = ap (λ (t : Term). t.payloads) h in
     record {
       node = λ i. record { operator = operator i; payloads = payloads i; tree = parts.tree i; names = parts.names i };
-      count = filled_count f.tree f.names ts w;
+      count = whole_count f.tree f.names ts w;
       row = parts.row;
     }
 

@@ -4,7 +4,7 @@ use Rattle.std.specs.Prelude.{Some, slice_get, take}
 use Rattle.std.proofs.lemmas.List.{take_more}
 use Rattle.std.proofs.lemmas.List.Elements.{Contains-append_cases}
 use Rattle.std.proofs.lemmas.Option.{get_or_from_slice_get}
-use Rattle.slotted_theory.proofs.Lists.{contains_cases, Contains-nil}
+use Rattle.slotted_lists.proofs.Contained.{contains_cases, Contains-nil}
 use Rattle.slotted_theory.specs.Nameless.{DTerm}
 use Rattle.slotted_check.specs.declared.steps.Equation.{Equation}
 use Rattle.slotted_check.specs.Lines.{AreEqualRows, EachLine}

@@ -2,12 +2,12 @@
 use Rattle.std.proofs.Common.{◌≡◌, List, [], ◌∷◌, ◌++◌, map, sym, ◌∙◌, ap}
 use Rattle.std.specs.Prelude.{Contains}
 use Rattle.std.proofs.lemmas.List.Elements.{All-push, All-nil, All-contains}
+use Rattle.slotted_lists.proofs.Contained.{Contains-map, contains_head}
 use Rattle.slotted_theory.specs.Term.{Term}
 use Rattle.slotted_theory.specs.Nameless.{DTerm, nameless}
 use Rattle.slotted_theory.specs.Derives.{listed, nameless_pair}
 use Rattle.slotted_theory.proofs.Backward.{Equal-derives}
 use Rattle.slotted_theory.proofs.Equals.{Equal-along, Equal-more}
-use Rattle.slotted_theory.proofs.Lists.{Contains-map, contains_head}
 use Rattle.slotted_check.specs.declared.pieces.Piece.{Piece}
 use Rattle.slotted_check.specs.declared.steps.Equation.{Equation}
 use Rattle.slotted_check.specs.Rows.{row, IsPlain}

@@ -1,8 +1,8 @@
 -- Ascending lists, one of which stands in the other.
 use Rattle.std.proofs.Common.{◌≡◌, ◌<◌, ◌≤◌, ℕ, List, [], ◌∷◌, length, refl, arith, inl, inr}
+use Rattle.slotted_lists.proofs.Members.{Contains-In, In, In-Contains}
 use Rattle.slotted_model.specs.Ascending.{IsAscending, IsBelowAll}
 use Rattle.slotted_model.proofs.Correspondences.FullIds.{ascending-different}
-use Rattle.slotted_model.proofs.Data.Members.{Contains-In, In, In-Contains}
 use Rattle.slotted_model.proofs.Rebuilding.Touching.{different-length}
 
 below-in : (x z : ℕ) (ys : List ℕ) → IsBelowAll x ys → In z ys → x < z

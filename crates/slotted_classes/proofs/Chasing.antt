@@ -4,6 +4,8 @@ use Rattle.std.specs.Prelude.{◌↔◌, Contains, IsTrue, nat_eq, slice_index_o
 use Rattle.std.specs.Option.{option_eq}
 use Rattle.std.specs.Map.{keys_of, values_of}
 use Rattle.std.proofs.lemmas.Bool.{cases_eq, eq-eqb, ne_eqb, false≢true}
+use Rattle.slotted_lists.proofs.Members.{In-Contains, Contains-In}
+use Rattle.slotted_lists.proofs.Options.{Some-same, same_options}
 use Rattle.slotted_theory.specs.FiniteMaps.{value_of}
 use Rattle.slotted_slots.specs.Maps as slots
 use Rattle.slotted_theory.specs.Nameless.{DTerm}
@@ -11,18 +13,18 @@ use Rattle.slotted_model.specs.Applied.{Applied, keys}
 use Rattle.slotted_model.specs.Classes.{canonical_slots}
 use Rattle.slotted_model.specs.Correspondence.{IsFullMap, pairs_on, composite, identity}
 use Rattle.slotted_model.specs.Find.{Entry, entry_at, IsLive, find_class, find_map, find, Linked}
-use Rattle.slotted_model.proofs.Correspondences.Pairs.{Contains-composite, Contains-of_value, Contains-value, Contains-value_of, same_options}
+use Rattle.slotted_model.proofs.Correspondences.Pairs.{Contains-composite, Contains-of_value, Contains-value, Contains-value_of}
 use Rattle.slotted_model.proofs.Correspondences.PartialInjections.{value_of-in_order, composite-in_order, composite-over}
 use Rattle.slotted_model.proofs.Correspondences.FullMaps.{full-in_order, full-ext, full-slot}
-use Rattle.slotted_model.proofs.Data.Options.{None-Some, Some-same}
+use Rattle.slotted_model.proofs.Data.Options.{None-Some}
 use Rattle.slotted_model.proofs.Finds.Finding.{leads, find_class-live, find_map-live, find_class-follows, find_map-follows, find_map-partial, found-live, found_keys, find_map-full}
 use Rattle.slotted_model.proofs.Finds.NormalIds.{values-identity, valid-map, found-full, used-by, of_used}
-use Rattle.slotted_model.proofs.Data.Members.{In-Contains, Contains-In}
+use Rattle.slotted_languages.proofs.Counting.{In-value}
 use Rattle.slotted_proofs.proofs.Bridges.{value_of-model}
 use Rattle.slotted_classes.specs.Finding.{HasFinds, HasFoundName, HasFoundNames, IsFindable}
 use Rattle.slotted_classes.specs.Kept.{Kept, find_at, nodes_of, entries_of}
 use Rattle.slotted_classes.proofs.KeptLists.{entry_at-of, length-nodes_of}
-use Rattle.slotted_classes.proofs.NameMaps.{In-key, at_In, key-In}
+use Rattle.slotted_classes.proofs.NameMaps.{at_In, key-In}
 
 -- what a composite has at a key
 pub composite-some : (P Q : List ℕ) (A B : List (ℕ × ℕ)) → pairs_on P (value_of A) ≡ A → pairs_on Q (value_of B) ≡ B → (s t : ℕ) → value_of A s ≡ Some t → value_of (composite A B) s ≡ value_of B t
@@ -175,7 +177,7 @@ module _ (k : Kept) (good : HasFinds k) where
       λ h u c.
           let same : s ≡ u = Some-same s u (e ∙ value_of-in_order (canonical_slots nodes (find_class found a.0)) map (map-ordered a.0 within) t u c) in
           subst (Contains (keys a.1)) same (Contains-In (keys a.1) s (key-In a.1 s (sym is ∙ h))),
-      λ h. is ∙ In-key a.1 s (In-Contains (keys a.1) s (h s (Contains-value_of map t s (sym e)))),
+      λ h. is ∙ In-value a.1 s (In-Contains (keys a.1) s (h s (Contains-value_of map t s (sym e)))),
     )
 
     pub no-name : (t : ℕ) → None ≡ value_of map t → HasFoundName k a t

@@ -3,6 +3,8 @@ use Rattle.std.proofs.Common.{◌≡◌, ◌<◌, ◌≤◌, ℕ, zero, suc, ◌
 use Rattle.std.specs.Prelude.{slice_index_or, slice_index, All}
 use Rattle.std.specs.List.{zip}
 use Rattle.std.proofs.lemmas.Bool.{lt-ltb, le-ltb, cases_eq}
+use Rattle.slotted_lists.proofs.Each.{Each, Each-append}
+use Rattle.slotted_lists.proofs.Maps.{zip-keys_values}
 use Rattle.slotted_theory.specs.Nameless.{place, extend, nameless_args}
 use Rattle.slotted_theory.specs.Renaming.{IsInjective}
 use Rattle.slotted_theory.proofs.Names.{extend-injective}
@@ -94,24 +96,7 @@ ids-at (bind u r) xs k d l =
       ]
     ]
 
--- a map is its keys beside its values
-pub zip-keys_values : (m : List (ℕ × ℕ)) → zip (keys m) (values m) ≡ m
-zip-keys_values [] = refl
-zip-keys_values (p ∷ m) = ap (λ l. p ∷ l) (zip-keys_values m)
-
 -- the same facts by a walk
-
-abbrev pub Each : {X : Type 0} → (X → Type 0) → List X → Type 0
-Each P [] = Unit {0}
-Each P (x ∷ xs) = P x × Each P xs
-
-pub Each-from_All : {X : Type 0} (P : X → Type 0) (xs : List X) → All P xs → Each P xs
-Each-from_All P [] h = tt
-Each-from_All P (x ∷ xs) h = (h 0 x (omega arith), Each-from_All P xs (λ k d l. h (suc k) d (omega arith)))
-
-pub Each-append : {X : Type 0} (P : X → Type 0) (xs ys : List X) → Each P (xs ++ ys) → Each P xs × Each P ys
-Each-append P [] ys h = (tt, h)
-Each-append P (x ∷ xs) ys h = let r = Each-append P xs ys h.1 in ((h.0, r.0), r.1)
 
 keys-zip : (ρ : ℕ → ℕ) (ks vs : List ℕ) → length vs ≡ length ks → keys (with_values ρ (zip ks vs)) ≡ ks
 keys-zip ρ [] vs n = refl

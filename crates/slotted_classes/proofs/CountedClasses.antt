@@ -7,10 +7,11 @@ use Rattle.std.proofs.lemmas.List.{get_or-set_same, get_or-set_other, get_or_app
 use Rattle.std.proofs.lemmas.List.Elements.{Contains-append_left, Contains-append_right, Contains-append_cases}
 use Rattle.slotted_model.specs.Find.{Entry, IsLive, entry_at}
 use Rattle.slotted_model.specs.Rest.{entry_size, size_from}
+use Rattle.slotted_model.proofs.Rebuilding.Events.{entry_size-live, entry_size-dead}
 use Rattle.slotted_classes.specs.Kept.{Kept, ClassEntry, AreNarrow, IsCounted, ListsDead, entries_in, entries_of, find_at}
 use Rattle.slotted_classes.proofs.DeadClasses.{dead-again, dead-kept, dead-linked, dead-more}
 use Rattle.slotted_classes.proofs.KeptLists.{entry_at-of, length-entries_of, length-mapped}
-use Rattle.slotted_classes.proofs.Sizes.{entry_size-live, entry_size-dead, size-set, size-within, size-more, size-few}
+use Rattle.slotted_classes.proofs.Sizes.{size-set, size-within, size-more, size-few}
 use Rattle.slotted_classes.proofs.Writes.{written, written-entries}
 
 -- what stands in lists of entries with another member, and with one more

@@ -2,10 +2,11 @@
 use Rattle.std.proofs.Common.{◌≡◌, ◌<◌, ℕ, suc, List, [], ◌∷◌, length, cond, sym, ◌∙◌, ap, refl, subst, inl, inr}
 use Rattle.std.specs.Prelude.{nat_eq, slice_index_or, IsSome}
 use Rattle.std.proofs.lemmas.Bool.{cases_lt, lt-ltb, le-ltb, ne_eqb}
+use Rattle.slotted_lists.proofs.Members.{In}
+use Rattle.slotted_lists.proofs.Maps.{length-values}
 use Rattle.slotted_theory.specs.FiniteMaps.{HasValue, IsInjectiveMap}
 use Rattle.slotted_model.specs.Ascending.{with_name, ascending}
 use Rattle.slotted_model.specs.Applied.{values}
-use Rattle.slotted_model.proofs.Data.Members.{In}
 use Rattle.slotted_model.proofs.Data.Sets.{IsAscending-ascending, In-ascending, In-of_ascending}
 use Rattle.slotted_model.specs.Correspondence.{identity, AllDifferent}
 use Rattle.slotted_model.proofs.Correspondences.PartialInjections.{identity-pair}
@@ -14,9 +15,10 @@ use Rattle.slotted_model.proofs.Correspondences.FullIds.{ascending-different}
 use Rattle.slotted_model.proofs.Finds.NormalIds.{keys-identity}
 use Rattle.slotted_slots.specs.Ascending.{IsAscending}
 use Rattle.slotted_slots.specs.Maps.{keys, value_of}
+use Rattle.slotted_languages.proofs.Counting.{In-value as In-key}
 use Rattle.slotted_classes.specs.Names.{between}
 use Rattle.slotted_classes.proofs.NamePairs.{between-itself}
-use Rattle.slotted_classes.proofs.NameMaps.{rising, In-key, In-at, at_In, keys_are, length-values}
+use Rattle.slotted_classes.proofs.NameMaps.{rising, In-at, at_In, keys_are}
 
 length-with_new : (x : ℕ) (ys : List ℕ) → ¬ In x ys → length (with_name x ys) ≡ suc (length ys)
 length-with_new x [] n = refl

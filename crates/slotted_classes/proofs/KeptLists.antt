@@ -1,6 +1,6 @@
 -- What is kept, as the lists of the model.
 use Rattle.std.proofs.Common.{◌≡◌, ◌<◌, ℕ, zero, suc, List, [], ◌∷◌, length, map, get_or, ap, refl, arith}
-use Rattle.std.specs.Prelude.{slice_index_or}
+use Rattle.slotted_lists.proofs.Lists.{slice_index_or-map}
 use Rattle.slotted_languages.specs.NodeTerm.{nameless_node}
 use Rattle.slotted_model.specs.Find.{entry_at}
 use Rattle.slotted_model.specs.ProofList.{ProofEntry, equation_at}
@@ -10,11 +10,6 @@ use Rattle.slotted_classes.specs.Kept.{Kept, ClassEntry, no_form, no_entry, find
 pub length-mapped : {X Y : Type 0} (f : X → Y) (xs : List X) → length (map f xs) ≡ length xs
 length-mapped f [] = refl
 length-mapped f (x ∷ xs) = ap suc (length-mapped f xs)
-
-pub at-mapped : {X Y : Type 0} (f : X → Y) (xs : List X) (i : ℕ) (d : X) → slice_index_or (map f xs) i (f d) ≡ f (slice_index_or xs i d)
-at-mapped f [] i d = refl
-at-mapped f (x ∷ xs) zero d = refl
-at-mapped f (x ∷ xs) (suc i) d = at-mapped f xs i d
 
 pub length-nodes_of : (k : Kept) → length (nodes_of k) ≡ length k.classes
 length-nodes_of k = length-mapped (λ (c : ClassEntry). nameless_node c.0) k.classes
@@ -27,11 +22,11 @@ length-proofs_of k = length-mapped entry_of k.proofs
 
 -- the find entry of a class
 pub entry_at-of : (k : Kept) (i : ℕ) → entry_at (entries_of k) i ≡ find_at k i
-entry_at-of k i = at-mapped (λ (c : ClassEntry). c.1) k.classes i (no_form, no_entry)
+entry_at-of k i = slice_index_or-map (λ (c : ClassEntry). c.1) k.classes i (no_form, no_entry)
 
 -- the equation at a number
 pub equation_at-of : (ps : List Proven) (p : ℕ) → equation_at (map entry_of ps) p ≡ (statement_at ps p).equation
-equation_at-of ps p = ap (λ (x : ProofEntry). x.equation) (at-mapped entry_of ps p nothing_proven)
+equation_at-of ps p = ap (λ (x : ProofEntry). x.equation) (slice_index_or-map entry_of ps p nothing_proven)
 
 -- what stands within a list does not depend on what is said to stand past its end
 pub any_default : {X : Type 0} (xs : List X) (k : ℕ) (d e : X) → k < length xs → get_or xs k d ≡ get_or xs k e

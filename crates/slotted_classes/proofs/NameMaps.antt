@@ -3,7 +3,8 @@ use Rattle.std.proofs.Common.{◌≡◌, ◌≢◌, ◌<◌, ◌≤◌, ℕ, zer
 use Rattle.std.specs.Prelude.{slice_get, slice_set, slice_index_or, All, IsSome, IsTrue, cond, Bool, ◌↔◌}
 use Rattle.std.specs.List.{zip}
 use Rattle.std.proofs.lemmas.Option.{get_or_from_slice_get}
-use Rattle.std.proofs.lemmas.Bool.{cases_eq, eq-eqb, ne_eqb, false≢true}
+use Rattle.std.proofs.lemmas.Bool.{cases_eq, ne_eqb, false≢true}
+use Rattle.slotted_lists.proofs.Members.{In}
 use Rattle.slotted_theory.specs.FiniteMaps.{IsInjectiveMap, with_values}
 use Rattle.slotted_slots.specs.Ascending as slots
 use Rattle.slotted_slots.specs.Maps.{value_of, with_pair, keys, values, all_differ}
@@ -12,7 +13,6 @@ use Rattle.slotted_slots.proofs.TableLaws.{is_known-numeric_slot}
 use Rattle.slotted_nodes.specs.Form.{Form, with_name}
 use Rattle.slotted_languages.specs.Shape.{with_names}
 use Rattle.slotted_model.specs.Ascending as model
-use Rattle.slotted_model.proofs.Data.Members.{In}
 use Rattle.slotted_proofs.proofs.Bridges.{differ_injective, injective_differ}
 use Rattle.slotted_classes.specs.Names.{with_pairs, fresh_slots, put}
 
@@ -89,17 +89,6 @@ key-In (p ∷ m) x h = elim (cases_eq p.0 x) [
   | inr n ↦ inr (key-In m x (subst (λ (b : Bool). IsSome (cond b (Some p.1) (value_of m x))) (ne_eqb p.0 x n) h))
 ]
 
-pub In-key : (m : List (ℕ × ℕ)) (x : ℕ) → In x (keys m) → IsSome (value_of m x)
-In-key [] x h = absurd h
-In-key (p ∷ m) x h = elim (cases_eq p.0 x) [
-  | inl e ↦ subst (λ (b : Bool). IsSome (cond b (Some p.1) (value_of m x))) (sym (eq-eqb p.0 x e)) refl
-  | inr n ↦ subst (λ (b : Bool). IsSome (cond b (Some p.1) (value_of m x))) (sym (ne_eqb p.0 x n)) (In-key m x (later h n))
-]
-  where
-    later : In x (keys (p ∷ m)) → p.0 ≢ x → In x (keys m)
-    later (inl e) n = absurd (n (sym e))
-    later (inr k) n = k
-
 pub In-at : (xs : List ℕ) (k d : ℕ) → k < length xs → In (slice_index_or xs k d) xs
 In-at [] k d l = absurd (omega arith)
 In-at (x ∷ xs) zero d l = inl refl
@@ -162,14 +151,6 @@ rising (x ∷ xs) h = (below_above x xs h.0, rising xs h.1)
 -- no value stands twice exactly if the map is injective
 pub all_differ-iff : (m : List (ℕ × ℕ)) → IsTrue (all_differ (values m)) ↔ IsInjectiveMap m
 all_differ-iff m = (differ_injective m, injective_differ m)
-
-pub length-values : (m : List (ℕ × ℕ)) → length (values m) ≡ length m
-length-values [] = refl
-length-values (p ∷ m) = ap suc (length-values m)
-
-pub length-keys : (m : List (ℕ × ℕ)) → length (keys m) ≡ length m
-length-keys [] = refl
-length-keys (p ∷ m) = ap suc (length-keys m)
 
 -- each table knows numeric names
 pub numeric-known : (t : Table) (m : List (ℕ × ℕ)) → All (λ x. IsTrue (is_known t x)) (values (with_values numeric_slot m))

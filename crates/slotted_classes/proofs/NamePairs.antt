@@ -1,8 +1,10 @@
 -- The map that place by place inserts make: the names of one node beside those of another.
 use Rattle.std.proofs.Common.{◌≡◌, ◌↔◌, ◌⊎◌, ℕ, List, [], ◌∷◌, ◌++◌, map, cond, sym, ◌∙◌, ap, refl, subst, inl, inr}
-use Rattle.std.specs.Prelude.{Bool, true, false, nat_eq, ◌||◌}
+use Rattle.std.specs.Prelude.{Bool, true, false, nat_eq}
 use Rattle.std.specs.List.{zip}
 use Rattle.std.proofs.lemmas.Bool.{cases_eq, cases_lt, eq-eqb, ne_eqb, lt-ltb, le-ltb}
+use Rattle.slotted_lists.proofs.Members.{In}
+use Rattle.slotted_lists.proofs.Maps.{is_among-In, values-with_values}
 use Rattle.slotted_theory.specs.FiniteMaps.{with_values}
 use Rattle.slotted_slots.specs.Maps.{with_pair, values, is_among}
 use Rattle.slotted_nodes.specs.Form.{Form}
@@ -11,9 +13,7 @@ use Rattle.slotted_languages.specs.Shape.{shape, added, firsts}
 use Rattle.slotted_languages.proofs.Shapes.{values-shape}
 use Rattle.slotted_model.specs.Ascending.{with_name, ascending, names}
 use Rattle.slotted_model.specs.Applied.{map_on}
-use Rattle.slotted_model.proofs.Data.Members.{In}
 use Rattle.slotted_model.proofs.Data.Sets.{ascending-same}
-use Rattle.slotted_model.proofs.Data.Maps.{values-with_values}
 use Rattle.slotted_classes.specs.Names.{with_pairs, between}
 
 -- a pair put into the map of a function on some keys
@@ -66,13 +66,6 @@ with_pairs-all f xs =
 
 -- each name once is the same names
 
-among-In : (xs : List ℕ) (x : ℕ) → is_among x xs ≡ true → In x xs
-among-In [] x h = cc
-among-In (y ∷ ys) x h = elim (cases_eq y x) [
-  | inl e ↦ inl (sym e)
-  | inr n ↦ inr (among-In ys x (sym (ap (λ b. b || is_among x ys) (ne_eqb y x n)) ∙ h))
-]
-
 In-push : (z x : ℕ) (vs : List ℕ) → In z (vs ++ x ∷ []) ↔ (In z vs ⊎ (z ≡ x))
 In-push z x [] = (λ h. elim h [ inl e ↦ inr e | inr k ↦ absurd k ], λ h. elim h [ inl k ↦ absurd k | inr e ↦ inl e ])
 In-push z x (v ∷ vs) =
@@ -82,7 +75,7 @@ In-push z x (v ∷ vs) =
     )
 
 In-one : (z x : ℕ) (vs : List ℕ) (b : Bool) → is_among x vs ≡ b → In z (cond b vs (vs ++ x ∷ [])) ↔ (In z vs ⊎ (z ≡ x))
-In-one z x vs true e = (inl, λ h. elim h [ inl k ↦ k | inr q ↦ subst (λ y. In y vs) (sym q) (among-In vs x e) ])
+In-one z x vs true e = (inl, λ h. elim h [ inl k ↦ k | inr q ↦ subst (λ y. In y vs) (sym q) (is_among-In vs x e) ])
 In-one z x vs false e = In-push z x vs
 
 In-added : (z : ℕ) (xs vs : List ℕ) → In z (added vs xs) ↔ (In z vs ⊎ In z xs)

@@ -16,7 +16,7 @@ from-names i [] j l = absurd (omega arith)
 from-names i (c ∷ cs) zero l = refl
 from-names i (c ∷ cs) (suc j) l = from-names (suc i) cs j (omega arith)
 
-length-from : (i : ℕ) (cs : List ClassEntry) → length (rows_from i cs) ≡ length cs
+pub length-from : (i : ℕ) (cs : List ClassEntry) → length (rows_from i cs) ≡ length cs
 length-from i [] = refl
 length-from i (c ∷ cs) = ap suc (length-from (suc i) cs)
 

@@ -1,30 +1,33 @@
 -- Nodes with slots in the place of numbers. A shape with fresh slots for some of its numbers has that shape, and with slots for the numbers of all of
 -- its free names it has these as its names.
-use Rattle.std.proofs.Common.{◌≡◌, ◌≢◌, ◌≤◌, ◌+◌, ℕ, zero, suc, length-append, List, [], ◌∷◌, ◌++◌, Option, Some, None, length, take, drop, map, cond, sym, ◌∙◌, ap, refl, subst, arith, inl, inr}
+use Rattle.std.proofs.Common.{◌≡◌, ◌≢◌, ◌≤◌, ◌+◌, ℕ, zero, suc, length-append, List, [], ◌∷◌, ◌++◌, Option, Some, None, length, map, cond, sym, ◌∙◌, ap, refl, subst, arith, inl, inr}
 use Rattle.std.specs.Prelude.{slice_index, unwrap_or, ◌⊎◌}
 use Rattle.std.proofs.lemmas.Bool.{cases_eq, eq-eqb, ne_eqb}
 use Rattle.std.proofs.lemmas.List.{map-append}
-use Rattle.slotted_theory.specs.Term.{Args, Term, done, name}
+use Rattle.slotted_lists.proofs.Members.{In, In-left, In-right, In-append}
+use Rattle.slotted_lists.proofs.Maps.{keys-with_values}
+use Rattle.slotted_theory.specs.Term.{Args, Term, done}
 use Rattle.slotted_theory.specs.Term as term
 use Rattle.slotted_theory.specs.Nameless.{DArgs, stop, place, sub, scope, nameless, moved}
-use Rattle.slotted_theory.specs.Renaming.{IsInjective, renamed_args, renamed}
+use Rattle.slotted_theory.specs.Renaming.{IsInjective, renamed}
 use Rattle.slotted_theory.specs.FiniteMaps.{HasValue, IsInjectiveMap, top, filled, with_values}
 use Rattle.slotted_theory.proofs.Laws.{nameless-renamed}
 use Rattle.slotted_theory.proofs.Filled.{filled-injective}
 use Rattle.slotted_slots.specs.Maps.{keys, values, value_of}
 use Rattle.slotted_slots.specs.Table.{numeric_slot, fresh_slot}
-use Rattle.slotted_nodes.specs.Form.{Form, Tree, leaf, own, child, bind, scopes}
-use Rattle.slotted_languages.specs.NodeTerm.{own_names, node_args, node_term, nameless_node}
+use Rattle.slotted_nodes.specs.Form.{Form}
+use Rattle.slotted_languages.specs.NodeTerm.{node_term, nameless_node}
 use Rattle.slotted_languages.specs.Shape.{Numbers, number_of, free_number, number_at, past_binder, numbered, no_numbers, names_in, with_names, shape, Fits}
-use Rattle.slotted_languages.proofs.NodeTerms.{own_fits, child_rest_fits, bind_inner_fits, bind_rest_fits, length-numbers}
+use Rattle.slotted_languages.proofs.NodeTerms.{length-numbers}
 use Rattle.slotted_languages.proofs.Shapes.{keys-shape, injective-shape, shape-renamed, shape-same}
+use Rattle.slotted_languages.proofs.FirstPlaces.{free_in}
+use Rattle.slotted_languages.proofs.RenamedNumbers.{node_args-map}
 use Rattle.slotted_model.specs.Ascending.{ascending}
 use Rattle.slotted_model.specs.Ascending as model
 use Rattle.slotted_model.proofs.Data.Theory.{past, past-key, past-other, filled-past}
 use Rattle.slotted_model.specs.Applied.{map_on}
-use Rattle.slotted_model.proofs.Data.Members.{In, In-left, In-right, In-append}
 use Rattle.slotted_model.proofs.Data.Sets.{IsAscending-ascending, In-ascending, In-of_ascending}
-use Rattle.slotted_model.proofs.Data.Maps.{In-values, keys-with_values, map_on-agrees, map_on-filled, filled-map_on, IsInjectiveMap-map_on}
+use Rattle.slotted_model.proofs.Data.Maps.{In-values, map_on-agrees, map_on-filled, filled-map_on, IsInjectiveMap-map_on}
 use Rattle.slotted_classes.specs.Names.{put, with_put, IsNumeric}
 use Rattle.slotted_proofs.proofs.Bridges.{ascends}
 
@@ -46,16 +49,9 @@ numeric_append xs ys h k x i = elim (In-append x xs ys i) [ inl a ↦ h x a | in
 numeric_keys : (m : List (ℕ × ℕ)) (n x : ℕ) → AreNumeric (keys m) → AreNumeric (keys (m ++ (numeric_slot n, x) ∷ []))
 numeric_keys m n x h = subst AreNumeric (sym (map-append (λ (p : ℕ × ℕ). p.0) m ((numeric_slot n, x) ∷ []))) (numeric_append (keys m) (numeric_slot n ∷ []) h (numeric_cons (numeric_slot n) [] (n, refl) numeric_none))
 
-number_in_keys : (m : List (ℕ × ℕ)) (x n : ℕ) → number_of m x ≡ Some n → In n (keys m)
-number_in_keys [] x n e = cc
-number_in_keys (p ∷ m) x n e = elim (cases_eq p.1 x) [
-  | inl d ↦ let q : Some p.0 ≡ Some n = sym (ap (λ b. cond b (Some p.0) (number_of m x)) (eq-eqb p.1 x d)) ∙ e in let r : p.0 ≡ n = cc in inl (sym r)
-  | inr d ↦ inr (number_in_keys m x n (sym (ap (λ b. cond b (Some p.0) (number_of m x)) (ne_eqb p.1 x d)) ∙ e))
-]
-
 -- numeric keys stay numeric, and give numeric numbers
 numeric_free : (o : Option ℕ) (k : Numbers) (x : ℕ) → number_of k.free x ≡ o → AreNumeric (keys k.free) → IsNumeric (free_number o k x).0 × AreNumeric (keys (free_number o k x).1.free)
-numeric_free (Some n) k x e h = (h n (number_in_keys k.free x n e), h)
+numeric_free (Some n) k x e h = (h n (free_in k.free x n e), h)
 numeric_free None k x e h = ((k.next, refl), numeric_keys k.free k.next x h)
 
 numeric_at : (ns : List ℕ) (k : Numbers) (x : ℕ) → AreNumeric ns → AreNumeric (keys k.free) → IsNumeric (number_at ns k x).0 × AreNumeric (keys (number_at ns k x).1.free)
@@ -115,39 +111,6 @@ length-free f h = omega (arith, length-shape f h, length-numbered [] no_numbers 
 head_map : (g : ℕ → ℕ) (xs : List ℕ) (n : ℕ) → length xs ≡ suc n → slice_index (map g xs) 0 ≡ g (slice_index xs 0)
 head_map g [] n e = absurd (omega (arith, e))
 head_map g (x ∷ xs) n e = refl
-
-drop-map : (g : ℕ → ℕ) (n : ℕ) (xs : List ℕ) → drop n (map g xs) ≡ map g (drop n xs)
-drop-map g zero xs = refl
-drop-map g (suc n) [] = refl
-drop-map g (suc n) (x ∷ xs) = drop-map g n xs
-
-take-map : (g : ℕ → ℕ) (n : ℕ) (xs : List ℕ) → take n (map g xs) ≡ map g (take n xs)
-take-map g zero xs = refl
-take-map g (suc n) [] = refl
-take-map g (suc n) (x ∷ xs) = ap (λ r. g x ∷ r) (take-map g n xs)
-
-own_names-map : (g : ℕ → ℕ) (xs : List ℕ) → own_names (map g xs) ≡ renamed_args g (own_names xs)
-own_names-map g [] = refl
-own_names-map g (x ∷ xs) = ap (name (g x)) (own_names-map g xs)
-
-pub node_args-map : (g : ℕ → ℕ) (t : Tree) (xs : List ℕ) → length xs ≡ length (scopes t) → node_args t (map g xs) ≡ renamed_args g (node_args t xs)
-node_args-map g leaf xs n = refl
-node_args-map g (own r) xs n =
-    let e : node_args r (drop 1 (map g xs)) ≡ renamed_args g (node_args r (drop 1 xs)) = ap (node_args r) (drop-map g 1 xs) ∙ node_args-map g r (drop 1 xs) (own_fits r xs n) in
-    λ i. name (head_map g xs (length (scopes r)) n i) (e i)
-node_args-map g (child j ks r) xs n =
-    let a : own_names (take (length ks) (map g xs)) ≡ renamed_args g (own_names (take (length ks) xs)) = ap own_names (take-map g (length ks) xs) ∙ own_names-map g (take (length ks) xs) in
-    let e : node_args r (drop (length ks) (map g xs)) ≡ renamed_args g (node_args r (drop (length ks) xs)) =
-    ap (node_args r) (drop-map g (length ks) xs) ∙ node_args-map g r (drop (length ks) xs) (child_rest_fits j ks r xs n) in
-    λ i. term.child 0 ((j ∷ ks) ∷ []) (a i) (e i)
-node_args-map g (bind u r) xs n =
-    let m = length (scopes u) in
-    let d : drop 1 (map g xs) ≡ map g (drop 1 xs) = drop-map g 1 xs in
-    let a : node_args u (take m (drop 1 (map g xs))) ≡ renamed_args g (node_args u (take m (drop 1 xs))) =
-    ap (λ l. node_args u (take m l)) d ∙ (ap (node_args u) (take-map g m (drop 1 xs)) ∙ node_args-map g u (take m (drop 1 xs)) (bind_inner_fits u r xs n)) in
-    let e : node_args r (drop m (drop 1 (map g xs))) ≡ renamed_args g (node_args r (drop m (drop 1 xs))) =
-    ap (λ l. node_args r (drop m l)) d ∙ (ap (node_args r) (drop-map g m (drop 1 xs)) ∙ node_args-map g r (drop m (drop 1 xs)) (bind_rest_fits u r xs n)) in
-    λ i. term.bind (head_map g xs (length (scopes u ++ scopes r)) n i) (a i) (e i)
 
 -- the nameless form of a node with other names at all places
 pub nameless-renamed_node : (g : ℕ → ℕ) → IsInjective g → (f : Form) → Fits f → nameless_node (with_names f (map g f.names)) ≡ moved g (nameless_node f)

@@ -1,14 +1,7 @@
 -- How many live classes and slots of them there are: what another entry in the place of one, and one more, make of it.
-use Rattle.std.proofs.Common.{◌≡◌, ◌≢◌, ◌<◌, ◌≤◌, ◌+◌, ◌*◌, ℕ, zero, suc, List, [], ◌∷◌, ◌++◌, length, set, cond, ap, subst, arith}
-use Rattle.std.proofs.lemmas.Bool.{eq-eqb, ne_eqb}
+use Rattle.std.proofs.Common.{◌≡◌, ◌<◌, ◌≤◌, ◌+◌, ◌*◌, ℕ, zero, suc, List, [], ◌∷◌, ◌++◌, length, set, ap, subst, arith}
 use Rattle.slotted_model.specs.Find.{Entry, entry_at}
 use Rattle.slotted_model.specs.Rest.{entry_size, size_from}
-
-pub entry_size-live : (i : ℕ) (e : Entry) → e.class ≡ i → entry_size i e ≡ suc (length e.pairs)
-entry_size-live i e p = ap (λ b. cond b (suc (length e.pairs)) 0) (eq-eqb e.class i p)
-
-pub entry_size-dead : (i : ℕ) (e : Entry) → e.class ≢ i → entry_size i e ≡ 0
-entry_size-dead i e n = ap (λ b. cond b (suc (length e.pairs)) 0) (ne_eqb e.class i n)
 
 -- another entry counts in the place of the one that stood there
 pub size-set : (n i m : ℕ) (es : List Entry) (x : Entry) → m ≡ n + i → i < length es → size_from n (set es i x) + entry_size m (entry_at es i) ≡ size_from n es + entry_size m x

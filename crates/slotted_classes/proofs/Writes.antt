@@ -1,12 +1,13 @@
 -- What a write of one class leaves: the canonical nodes and the rows, and one other find entry.
 use Rattle.std.proofs.Common.{◌≡◌, ℕ, zero, suc, ◌<◌, List, [], ◌∷◌, length, set, get_or, sym, ◌∙◌, ap, refl, arith}
 use Rattle.std.specs.Prelude.{map, slice_index_or}
+use Rattle.slotted_lists.proofs.Lists.{slice_index_or-map}
 use Rattle.slotted_theory.specs.Nameless.{DTerm}
 use Rattle.slotted_languages.specs.NodeTerm.{nameless_node}
 use Rattle.slotted_languages.specs.Shape.{shape}
 use Rattle.slotted_model.specs.Find.{Entry}
 use Rattle.slotted_classes.specs.Kept.{Kept, ClassEntry, RowEntry, no_form, no_entry, node_at, nodes_of, entries_of, rows_from}
-use Rattle.slotted_classes.proofs.KeptLists.{length-mapped, at-mapped, any_default}
+use Rattle.slotted_classes.proofs.KeptLists.{length-mapped, any_default}
 
 -- lists with another element
 
@@ -47,7 +48,7 @@ module _ (k : Kept) (i : ℕ) (x : Entry) where
   written-nodes =
       let f : ClassEntry → DTerm = λ y. nameless_node y.0 in
       map-set f k.classes i (node_at k i, x)
-      ∙ (ap (set (map f k.classes) i) (sym (at-mapped f k.classes i (no_form, no_entry))) ∙ set-itself (map f k.classes) i (f (no_form, no_entry)))
+      ∙ (ap (set (map f k.classes) i) (sym (slice_index_or-map f k.classes i (no_form, no_entry))) ∙ set-itself (map f k.classes) i (f (no_form, no_entry)))
 
   pub written-entries : map (λ (y : ClassEntry). y.1) written ≡ set (entries_of k) i x
   written-entries = map-set (λ (y : ClassEntry). y.1) k.classes i (node_at k i, x)
@@ -65,7 +66,7 @@ module _ (k : Kept) (i : ℕ) (x : Entry) where
 pub read_entry : {C : Type 0} (f : C → ClassEntry) (cs : List C) (i : ℕ) (old d : C) → i < length cs → old ≡ get_or cs i d → slice_index_or (map f cs) i (no_form, no_entry) ≡ f old
 read_entry f cs i old d h e =
     let l : i < length (map f cs) = let m : length (map f cs) ≡ length cs = length-mapped f cs in omega arith in
-    any_default (map f cs) i (no_form, no_entry) (f d) l ∙ (at-mapped f cs i d ∙ ap f (sym e))
+    any_default (map f cs) i (no_form, no_entry) (f d) l ∙ (slice_index_or-map f cs i d ∙ ap f (sym e))
 
 -- a write of one class, seen as entries
 pub set_entry : {C : Type 0} (f : C → ClassEntry) (cs : List C) (i : ℕ) (old new d : C) (x : Entry) → i < length cs → old ≡ get_or cs i d → f new ≡ ((f old).0, x) → map f (set cs i new) ≡ set (map f cs) i ((slice_index_or (map f cs) i (no_form, no_entry)).0, x)
@@ -76,4 +77,4 @@ set_entry f cs i old new d x h e n =
 pub set_alike : {C : Type 0} (f : C → ClassEntry) (cs : List C) (i : ℕ) (old new d : C) → old ≡ get_or cs i d → f new ≡ f old → map f (set cs i new) ≡ map f cs
 set_alike f cs i old new d e n =
     map-set f cs i new
-    ∙ (ap (set (map f cs) i) (n ∙ (ap f e ∙ sym (at-mapped f cs i d))) ∙ set-itself (map f cs) i (f d))
+    ∙ (ap (set (map f cs) i) (n ∙ (ap f e ∙ sym (slice_index_or-map f cs i d))) ∙ set-itself (map f cs) i (f d))

@@ -1,5 +1,6 @@
 -- What a line asks: a command is its word, one space and the rest, or its word alone.
-use Rattle.std.specs.Prelude.{ℕ, List, [], ◌∷◌, Option, Some, None, option_map, if◌then◌else◌, ◌==◌, bytes_eq, codes}
+use Rattle.std.specs.Prelude.{ℕ, List, Option, Some, None, if◌then◌else◌, ◌==◌, bytes_eq, codes}
+pub use Rattle.slotted_lists.specs.Texts.{rest_behind, in_front_or, parts_around}
 
 -- to add a text; to compare two texts; to unite two texts; to explain why two texts are equal; to extract from a text; to count symmetries;
 -- or nothing that is known
@@ -11,22 +12,6 @@ pub data Command : Type 0 where
   extracts : (text : List ℕ) → Command
   counts : Command
   no_command : Command
-
--- what follows a word that a text begins with
-abbrev pub rest_behind : List ℕ → List ℕ → Option (List ℕ)
-rest_behind [] bs = Some bs
-rest_behind (w ∷ ws) [] = None
-rest_behind (w ∷ ws) (b ∷ bs) = if w == b then rest_behind ws bs else None
-
--- the parts around a word that stands in front, or else these ones
-abbrev pub in_front_or : Option (List ℕ) → Option (List ℕ × List ℕ) → Option (List ℕ × List ℕ)
-in_front_or (Some rest) later = Some ([], rest)
-in_front_or None later = later
-
--- the part of a text before the first place where a word stands, and the part that follows the word there
-abbrev pub parts_around : List ℕ → List ℕ → Option (List ℕ × List ℕ)
-parts_around w [] = in_front_or (rest_behind w []) None
-parts_around w (b ∷ bs) = in_front_or (rest_behind w (b ∷ bs)) (option_map (λ p. (b ∷ p.0, p.1)) (parts_around w bs))
 
 -- what is asked of two texts, where there are two
 abbrev pub of_two : (List ℕ → List ℕ → Command) → Option (List ℕ × List ℕ) → Command

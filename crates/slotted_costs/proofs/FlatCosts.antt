@@ -8,9 +8,10 @@ use Rattle.slotted_patterns.specs.Tree.{PatternTree, enode, pvar, substitution, 
 use Rattle.slotted_terms.specs.Flat.{row_length, flat, flat_row, closed}
 use Rattle.slotted_terms.specs.TermPattern.{no_term, term_in, terms_in, IsGround, AreGround}
 use Rattle.slotted_terms.specs.Valid.{IsWhole}
+use Rattle.slotted_terms.proofs.TermPatterns.{filled_whole, AreWhole}
 use Rattle.slotted_costs.specs.Costs.{bare, bare_node, costs_by, cost_of_term}
 use Rattle.slotted_costs.specs.FlatCosts.{closed_costs}
-use Rattle.slotted_costs.proofs.TermCosts.{AreWhole, filled-whole, term-count, cost-node}
+use Rattle.slotted_costs.proofs.TermCosts.{term-count, cost-node}
 
 -- what a tree of nodes costs; what is no node costs what no term does
 abbrev mutual
@@ -55,7 +56,7 @@ row-count (one_more p rest) = ap suc (row-count rest)
 
 mutual
   pub right-flat : (p : PatternTree) → IsGround p → IsWhole (term_in p).args → AreRight (flat p)
-  right-flat (enode f row) g h = (row-count row ∙ term-count f (terms_in row) h, right-row row g (filled-whole f.tree f.names (terms_in row) h).1)
+  right-flat (enode f row) g h = (row-count row ∙ term-count f (terms_in row) h, right-row row g (filled_whole f.tree f.names (terms_in row) h).1)
   right-flat (pvar v) g h = absurd g
   right-flat (substitution b x t) g h = absurd g
 
@@ -66,7 +67,7 @@ mutual
 module _ {C : Type 0} (cmp : C → C → Ordering) (w : DTerm → List C → C) where
   mutual
     pub weigh-cost : (p : PatternTree) → IsGround p → IsWhole (term_in p).args → weigh w p ≡ cost_of_term (costs_by cmp w) (term_in p)
-    weigh-cost (enode f row) g h = ap (w (bare_node f)) (weigh-costs row g (filled-whole f.tree f.names (terms_in row) h).1) ∙ cost-node cmp w f (terms_in row) h
+    weigh-cost (enode f row) g h = ap (w (bare_node f)) (weigh-costs row g (filled_whole f.tree f.names (terms_in row) h).1) ∙ cost-node cmp w f (terms_in row) h
     weigh-cost (pvar v) g h = absurd g
     weigh-cost (substitution b x t) g h = absurd g
 

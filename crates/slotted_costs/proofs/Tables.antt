@@ -5,10 +5,11 @@ use Rattle.std.proofs.lemmas.Bool.{cases_eq, eq-eqb, ne_eqb}
 use Rattle.std.proofs.lemmas.List.{length-map, map-append, take_more}
 use Rattle.std.proofs.lemmas.Option.{slice_get-map, slice_get_within, slice_get_past, slice_get_read}
 use Rattle.std.proofs.lemmas.List.Elements.{Contains-get_or}
-use Rattle.slotted_theory.proofs.Lists.{Contains-map}
+use Rattle.slotted_lists.proofs.Contained.{Contains-map}
+use Rattle.slotted_lists.proofs.Options.{Some-same}
 use Rattle.slotted_nodes.specs.Form.{Form}
 use Rattle.slotted_model.specs.Extraction.{TableEntry, cost_in, costs_in}
-use Rattle.slotted_model.proofs.Data.Options.{None-Some, Some-same, option_map-some}
+use Rattle.slotted_model.proofs.Data.Options.{None-Some, option_map-some}
 use Rattle.slotted_model.proofs.LeastTerms.Tables.{costs-by, costs-append, costs-each}
 use Rattle.slotted_hashcons.proofs.Places.{at-append_cases, at-set_same, at-set_other}
 use Rattle.slotted_costs.specs.declared.entry.CostEntry.{CostEntry}

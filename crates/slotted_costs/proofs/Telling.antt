@@ -6,11 +6,12 @@ use Rattle.std.proofs.lemmas.Bool.{cases_eq}
 use Rattle.std.proofs.lemmas.List.{length-set, get_or-set_same, get_or-set_other, take-append-drop, take_more, drop_more}
 use Rattle.std.proofs.lemmas.List.Elements.{Contains-push_cases}
 use Rattle.std.proofs.lemmas.List.Sorted.{IsPermutation-map, IsPermutation-sym, Contains-permutation, length_permutation}
-use Rattle.slotted_theory.proofs.Lists.{contains_head, contains_tail, contains_cases}
+use Rattle.slotted_lists.proofs.Contained.{contains_head, contains_tail, contains_cases}
+use Rattle.slotted_lists.proofs.Options.{Some-same}
 use Rattle.slotted_nodes.specs.Form.{Form}
 use Rattle.slotted_model.specs.Cost.{CostFunction}
 use Rattle.slotted_model.specs.Extraction.{TableEntry}
-use Rattle.slotted_model.proofs.Data.Options.{None-Some, Some-same}
+use Rattle.slotted_model.proofs.Data.Options.{None-Some}
 use Rattle.slotted_hashcons.specs.Filed.{Filing}
 use Rattle.slotted_costs.specs.declared.candidate.Candidate.{Candidate}
 use Rattle.slotted_costs.specs.Prices.{IsCandidateFor, Pushes, filed_cost, pair_of, pairs_of}

@@ -1,9 +1,9 @@
 -- The cost of a term is that of its node over the costs of its child terms.
-use Rattle.std.proofs.Common.{◌≡◌, ◌<◌, ◌≤◌, ℕ, zero, suc, ◌+◌, List, [], ◌∷◌, ◌++◌, length, map, take, drop, get_or, sym, ◌∙◌, ap, refl, subst, arith, length-append}
+use Rattle.std.proofs.Common.{◌≡◌, ◌<◌, ◌≤◌, ℕ, zero, suc, ◌+◌, List, [], ◌∷◌, ◌++◌, length, map, take, drop, get_or, sym, ◌∙◌, ap, refl, subst, arith}
 use denote.Param.Weighed.{most}
 use Rattle.std.specs.Prelude.{slice_index, Result, Ok, Err, IfOk}
 use Rattle.std.specs.declared.cmp.Ordering.{Ordering}
-use Rattle.std.proofs.lemmas.List.{take-append-drop, map-append, length-take, length-drop}
+use Rattle.std.proofs.lemmas.List.{take-append-drop, map-append}
 use Rattle.slotted_theory.specs.Term.{Term, term_size}
 use Rattle.slotted_theory.specs.Nameless.{DArgs, DTerm, stop, place, sub, scope, extend, lift, moved, moved_args, nameless_args, nameless_by, nameless}
 use Rattle.slotted_theory.specs.Renaming.{IsInjective}
@@ -16,45 +16,20 @@ use Rattle.slotted_languages.specs.Filled.{filled, term_of, children_smaller}
 use Rattle.slotted_languages.specs.NodeTerm.{node_args}
 use Rattle.slotted_model.specs.Cost.{CostFunction, null_children, child_costs, tree_cost}
 use Rattle.slotted_terms.specs.Valid.{IsWhole}
+use Rattle.slotted_terms.proofs.TermPatterns.{filled_whole, AreWhole}
 use Rattle.slotted_costs.specs.Costs.{bare, bare_node, costs_by, cost_of_term}
 use Rattle.slotted_bare_nodes.proofs.Alike.{bare-moved}
-
--- each of the terms has the right number of children at each node
-abbrev pub AreWhole : List Term → Type 0
-AreWhole [] = Unit {0}
-AreWhole (t ∷ ts) = IsWhole t.args × AreWhole ts
-
-whole-join : (n : ℕ) (us : List Term) → AreWhole (take n us) → AreWhole (drop n us) → AreWhole us
-whole-join zero us h k = k
-whole-join (suc n) [] h k = tt
-whole-join (suc n) (u ∷ us) h k = (h.0, whole-join n us h.1 k)
 
 whole-at : (us : List Term) (i : ℕ) (u : Term) → AreWhole us → i < length us → u ≡ get_or us i u → IsWhole u.args
 whole-at [] i u h lt is = absurd (omega arith)
 whole-at (v ∷ us) zero u h lt is = subst (λ (t : Term). IsWhole t.args) (sym is) h.0
 whole-at (v ∷ us) (suc i) u h lt is = whole-at us i u h.1 (omega arith) is
 
--- a node of a whole term has a child for each place, and each of them is whole
-pub filled-whole : (t : Tree) (xs : List ℕ) (us : List Term) → IsWhole (filled t xs us) → (length us ≡ length (children t)) × AreWhole us
-filled-whole leaf xs [] w = (refl, tt)
-filled-whole leaf xs (u ∷ us) w = absurd (omega (arith, w.0))
-filled-whole (own r) xs us w = filled-whole r (drop 1 xs) us w
-filled-whole (child i ks r) xs [] w = absurd (omega (arith, w.0))
-filled-whole (child i ks r) xs (u ∷ us) w =
-    let rest = filled-whole r (drop (length ks) xs) us w.2 in
-    (ap suc rest.0, (w.1, rest.1))
-filled-whole (bind t r) xs us w =
-    let n = length (children t) in
-    let m = length (scopes t) in
-    let inner = filled-whole t (take m (drop 1 xs)) (take n us) w.0 in
-    let rest = filled-whole r (drop m (drop 1 xs)) (drop n us) w.1 in
-    (omega (arith, inner.0, rest.0, length-take n us, length-drop n us, length-append (children t) (children r)), whole-join n us inner.1 rest.1)
-
 pub term-count : (f : Form) (us : List Term) → IsWhole (term_of f us).args → length us ≡ length (children f.tree)
-term-count f us w = (filled-whole f.tree f.names us w).0
+term-count f us w = (filled_whole f.tree f.names us w).0
 
 pub child-whole : (f : Form) (us : List Term) → IsWhole (term_of f us).args → (i : ℕ) (u : Term) → i < length us → u ≡ get_or us i u → IsWhole u.args
-child-whole f us w i u = whole-at us i u (filled-whole f.tree f.names us w).1
+child-whole f us w i u = whole-at us i u (filled_whole f.tree f.names us w).1
 
 most-at : (us : List Term) (i : ℕ) (u : Term) → i < length us → u ≡ get_or us i u → term_size u + 1 ≤ most (λ t. term_size t + 1) us
 most-at [] i u lt is = absurd (omega arith)

@@ -7,12 +7,13 @@ use Rattle.std.specs.Cmp.{IsTotalOrder, alike_right}
 use Rattle.std.specs.Ordering.{bool_cmp, is_eq, is_le, is_lt, ordering_then, ordering_reverse, nat_cmp}
 use Rattle.std.specs.declared.cmp.Ordering.{Ordering}
 use Rattle.std.specs.declared.cmp.Ordering.TheVariants.{Less, Equal, Greater}
+use Rattle.slotted_lists.proofs.Contained.{contains_head, contains_tail, contains_cases, Contains-nil}
+use Rattle.slotted_lists.proofs.Options.{Some-same}
 use Rattle.slotted_theory.specs.Nameless.{DTerm}
-use Rattle.slotted_theory.proofs.Lists.{contains_head, contains_tail, contains_cases, Contains-nil}
 use Rattle.slotted_nodes.specs.Form.{Form}
 use Rattle.slotted_model.specs.Cost.{CostFunction}
 use Rattle.slotted_model.specs.Extraction.{TableEntry, cost_in, costs_in}
-use Rattle.slotted_model.proofs.Data.Options.{both-some, Some-same}
+use Rattle.slotted_model.proofs.Data.Options.{both-some}
 use Rattle.slotted_model.proofs.LeastTerms.Tables.{cost-kept, costs-each}
 use Rattle.slotted_hashcons.specs.Filed.{Filing, HasKey}
 use Rattle.slotted_costs.specs.Costs.{costs_by}

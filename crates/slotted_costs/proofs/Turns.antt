@@ -1,5 +1,5 @@
 -- A turn of the making as the code takes it.
-use Rattle.std.proofs.Common.{◌≡◌, ◌<◌, ◌≤◌, ℕ, zero, suc, List, [], ◌∷◌, ◌++◌, length, Option, Some, None, sym, ◌∙◌, ap, refl, subst, arith}
+use Rattle.std.proofs.Common.{◌≡◌, ◌<◌, ◌≤◌, ℕ, List, [], ◌∷◌, ◌++◌, length, Option, Some, None, sym, ◌∙◌, ap, refl, subst}
 use Rattle.std.specs.Prelude.{◌≢◌, All, Bool, false, not, is_some, option_map, slice_index_or}
 use Rattle.std.proofs.lemmas.Bool.{false≢true}
 use Rattle.std.proofs.lemmas.List.Elements.{All-contains, All-from_recursion, All-push}
@@ -10,6 +10,8 @@ use Rattle.std.specs.declared.cmp.Ordering.TheVariants.{Equal}
 use Rattle.std.specs.BinaryHeap.{heap_items, KeepsHeap, PopsGreatest}
 use Rattle.std.specs.List.Sorted.{IsPermutation}
 use Rattle.std.proofs.lemmas.List.Sorted.{IsPermutation-sym, Contains-permutation}
+use Rattle.slotted_lists.proofs.Contained.{contains_head}
+use Rattle.slotted_lists.proofs.Lists.{length-zero}
 use Rattle.slotted_theory.specs.Nameless.{DTerm}
 use Rattle.slotted_nodes.specs.Form.{Form}
 use Rattle.slotted_model.specs.Find.{find_class}
@@ -17,8 +19,9 @@ use Rattle.slotted_model.specs.State.{State}
 use Rattle.slotted_model.specs.Extraction.{TableEntry, cost_in, IsFinished}
 use Rattle.slotted_model.proofs.Data.Options.{None-Some}
 use Rattle.slotted_classes.specs.Kept.{Kept, entries_of}
-use Rattle.slotted_hashcons.specs.Filed.{Filing, filed_of}
+use Rattle.slotted_hashcons.specs.Filed.{filed_of}
 use Rattle.slotted_hashcons.specs.FiledRows.{Rows, IsFiled, row_of_entry}
+use Rattle.slotted_hashcons.proofs.JoinedNames.{filed-within}
 use Rattle.slotted_costs.specs.Costs.{costs_by}
 use Rattle.slotted_costs.specs.declared.candidate.Candidate.{Candidate}
 use Rattle.slotted_costs.specs.declared.entry.CostEntry.{CostEntry}
@@ -31,7 +34,6 @@ use Rattle.slotted_costs.specs.Making.{table_state, IsMaking, IsMadeSoFar, IsTur
 use Rattle.slotted_costs.proofs.Tables.{cost-of_entry, table-append}
 use Rattle.slotted_costs.proofs.Rows.{has-cost}
 use Rattle.slotted_costs.proofs.Entering.{making-permuted, making-passed, making-finished, told-within, making-entered}
-use Rattle.slotted_theory.proofs.Lists.{contains_head}
 
 no-entry : {C : Type 0} (table : List (TableEntry C)) (c : ℕ) → entry_in table c ≡ None → cost_in table c ≡ None
 no-entry table c h = cost-of_entry table c ∙ ap (option_map (λ e. e.cost)) h
@@ -42,15 +44,6 @@ some-entry {C} table c h none = h (by_case (entry_in table c) (sym (cost-of_entr
     by_case : (o : Option (TableEntry C)) → option_map (λ (e : TableEntry C). e.cost) o ≡ None → o ≡ None
     by_case None k = refl
     by_case (Some e) k = absurd (None-Some e.cost (sym k))
-
-filed-below : (v : List (Option Filing)) (i : ℕ) (e : Filing) → filed_of v i ≡ Some e → i < length v
-filed-below [] i e h = absurd (None-Some e h)
-filed-below (x ∷ v) zero e h = omega arith
-filed-below (x ∷ v) (suc i) e h = let l : i < length v = filed-below v i e h in omega arith
-
-empty-list : {A : Type 0} (xs : List A) → length xs ≡ 0 → xs ≡ []
-empty-list [] h = refl
-empty-list (x ∷ xs) h = absurd (omega arith)
 
 module _ {L C : Type 0} (form : L → Form) (order : L → L → Ordering) (cmp : C → C → Ordering) (weight : DTerm → List C → C) (store : Kept) (nodes : Rows) where
   abbrev g : State
@@ -83,7 +76,7 @@ module _ {L C : Type 0} (form : L → Form) (order : L → L → Ordering) (cmp 
         (a.filing, a.filed)
 
     pub turn-within : next.source.0 < length nodes.filed
-    turn-within = filed-below nodes.filed next.source.0 turn-filed.0 turn-filed.1
+    turn-within = filed-within nodes.filed next.source.0 turn-filed.0 turn-filed.1
 
     -- it is passed over
     pub turn-passed : (class : ℕ) → class ≡ find_class (entries_of store) next.source.0 → entry_in (table_of form m.table.entries.items) class ≢ None → IsMadeSoFar form order cmp weight store nodes m
@@ -149,7 +142,7 @@ module _ {L C : Type 0} (form : L → Form) (order : L → L → Ordering) (cmp 
   pub turn-none : (m : Making L C) → IsMadeSoFar form order cmp weight store nodes m → length (heap_items m.queue) ≡ 0 → IsFinished g (costs_by cmp weight) (table_of form m.table.entries.items)
   turn-none m made none =
       making-finished form order g nodes.filed refl cmp weight (table_of form m.table.entries.items) m.lacking.items
-      (subst (λ q. IsMaking form order g nodes.filed (costs_by cmp weight) (table_of form m.table.entries.items) q m.lacking.items) (empty-list (heap_items m.queue) none) made.making)
+      (subst (λ q. IsMaking form order g nodes.filed (costs_by cmp weight) (table_of form m.table.entries.items) q m.lacking.items) (length-zero (heap_items m.queue) none) made.making)
 
 -- what is there is not none
 pub some-there : {A B : Type 0} (f : A → B) (o : Option A) (b : Bool) (e : Option B) → is_some o ≡ not b → b ≡ false → option_map f o ≡ e → e ≢ None

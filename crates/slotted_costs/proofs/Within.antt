@@ -1,8 +1,8 @@
 -- Numbers of 64 bits are at most the largest one.
 use Rattle.std.proofs.Common.{◌≡◌, ◌≤◌, ℕ, suc, List, [], ◌∷◌, get_or, subst, sym, inl, inr, arith, Fits, w64}
 use Rattle.std.specs.Prelude.{◌+◌, Contains, min, max}
+use Rattle.slotted_lists.proofs.Contained.{contains_head, contains_tail, contains_cases, Contains-nil}
 use Rattle.slotted_theory.specs.Nameless.{DTerm}
-use Rattle.slotted_theory.proofs.Lists.{contains_head, contains_tail, contains_cases, Contains-nil}
 use Rattle.slotted_model.specs.Cost.{dearest}
 use Rattle.slotted_costs.specs.Size.{largest}
 

@@ -5,7 +5,7 @@ use Rattle.std.proofs.lemmas.Bool.{cases_eq}
 use Rattle.std.proofs.lemmas.List.{get_or-set_same, get_or-set_other, length-set}
 use Rattle.std.proofs.lemmas.List.Elements.{Contains-append_left}
 use Rattle.std.proofs.lemmas.Option.{get_or_from_slice_get, slice_get_within, slice_get-get_or}
-use Rattle.slotted_theory.proofs.Lists.{Contains-nil}
+use Rattle.slotted_lists.proofs.Contained.{Contains-nil, contains_cases-end}
 use Rattle.slotted_model.specs.Correspondence.{AllDifferent}
 use Rattle.slotted_model.specs.Find.{IsLive}
 use Rattle.slotted_model_analyses.specs.Analysis.{Analysis, IsMerge, Absorbs}
@@ -19,7 +19,7 @@ use Rattle.slotted_data.specs.Made.{data_in}
 use Rattle.slotted_data.specs.Users.{SameValues, WaitsFiled, found_in}
 use Rattle.slotted_data.specs.Burying.{MovesUsers, WaitsOr, HasTheSame, BuriesOne, FollowsUser, Buries}
 use Rattle.slotted_data.proofs.NewData.{notes-once, notes-there, notes-kept, notes-from}
-use Rattle.slotted_data.proofs.Entering.{end-cases, end-there, user-kept, user-there, user-only, waits-same, waits-then}
+use Rattle.slotted_data.proofs.Entering.{end-there, user-kept, user-there, user-only, waits-same, waits-then}
 
 -- these users of the class c are users of h, and c has no others
 pub record MovesFirst {D : Type 0} (c h : ℕ) (os : List ℕ) (d e : Held D) : Type 0 where
@@ -52,7 +52,7 @@ module _ {D : Type 0} (c h : ℕ) (d : Held D) where
   moves-next os o e m within = record {
     same = record { values = m.same.values; changed = m.same.changed; carried = m.same.carried; tall = m.same.tall; counts = m.same.counts };
     entered = m.entered;
-    moved = λ p there. elim (end-cases os o p there) [
+    moved = λ p there. elim (contains_cases-end os o p there) [
       | inl j ↦ user-kept e h o within h p (m.moved p j)
       | inr q ↦ subst (Contains (users_of (with_user e h o) h)) (sym q) (user-there e h o within)
     ];
@@ -230,7 +230,7 @@ module _ {D : Type 0} (a : Analysis D) (law : IsMerge D a) (k : Kept) where
           subst (λ j. WaitsOr s u o (HasTheSame f (found_in k j) d j)) (sym q) (moved_on o (subst (λ j. Contains (users_of e j) o) q y.1)),
         )
         | inr n ↦ inl (
-          λ j. elim (end-cases cs c b j) [
+          λ j. elim (contains_cases-end cs c b j) [
             | inl z ↦ y.0 z
             | inr z ↦ n z
           ],
@@ -265,7 +265,7 @@ module _ {D : Type 0} (a : Analysis D) (law : IsMerge D a) (k : Kept) where
       rows = waits-then s t u m.rows both_rows;
       down = λ i x. absorbs-then a law (data_in x f.values i) (data_in x e.values i) (data_in x d.values i) (lower i x) (m.down i x);
       grounded = next-grounded;
-      merged = λ i x there. elim (end-cases cs c i there) [
+      merged = λ i x there. elim (contains_cases-end cs c i there) [
         | inl j ↦ absorbs-then a law (data_in x f.values (found_in k i)) (data_in x e.values (found_in k i)) (data_in x d.values i) (lower (found_in k i) x) (m.merged i x j)
         | inr q ↦ subst (λ j. Absorbs a (data_in x f.values (found_in k j)) (data_in x d.values j)) (sym q)
             (subst (λ y. Absorbs a y (data_in x d.values c)) (sym (new_heir x)) (subst (Absorbs a w) (sym (at_dead x) ∙ m.stale c dead x) (merge-absorbs a law one.kept one.dead)))

@@ -4,24 +4,14 @@ use Rattle.std.specs.Prelude.{◌⊎◌, Contains}
 use Rattle.std.proofs.lemmas.Bool.{cases_eq}
 use Rattle.std.proofs.lemmas.List.{get_or-set_same, get_or-set_other, map-append}
 use Rattle.std.proofs.lemmas.List.Elements.{Contains-append_left, Contains-append_right, Contains-append_cases}
-use Rattle.slotted_theory.proofs.Lists.{contains_head, contains_cases, Contains-nil}
+use Rattle.slotted_lists.proofs.Contained.{contains_head, contains_cases, Contains-nil, contains_cases-end}
+use Rattle.slotted_model.proofs.Rebuilding.Touching.{different-added}
 use Rattle.slotted_classes.specs.Kept.{Kept}
 use Rattle.slotted_hashcons.specs.Filed.{filed_of}
 use Rattle.slotted_hashcons.specs.FiledRows.{IsFiled, QueuesUp, Rows}
-use Rattle.slotted_hashcons.proofs.Flags.{different-added}
 use Rattle.slotted_data.specs.Held.{Held, users_of, with_user, with_entered}
 use Rattle.slotted_data.specs.Made.{children_at}
 use Rattle.slotted_data.specs.Users.{WaitsFiled, WaitEach, SameValues, found_in, IsOlderOrWaits, EntersChildren, EntersUsers}
-
--- one of a list with one more at its end
-pub end-cases : {X : Type 0} (xs : List X) (y x : X) → Contains (xs ++ y ∷ []) x → Contains xs x ⊎ (x ≡ y)
-end-cases xs y x h = elim (Contains-append_cases xs (y ∷ []) x h) [
-  | inl k ↦ inl k
-  | inr k ↦ elim (contains_cases y [] x k) [
-    | inl e ↦ inr e
-    | inr n ↦ absurd (Contains-nil x n)
-  ]
-]
 
 pub end-there : {X : Type 0} (xs : List X) (y : X) → Contains (xs ++ y ∷ []) y
 end-there xs y = Contains-append_right xs (y ∷ []) y (contains_head y [])
@@ -46,7 +36,7 @@ each-none s = record { filed = waits-same s; waits = λ o c. absurd (Contains-ni
 pub each-then : (s t u : Rows) (os : List ℕ) (o : ℕ) → WaitEach s t os → WaitEach t u (o ∷ []) → WaitEach s u (os ++ o ∷ [])
 each-then s t u os o m n = record {
   filed = waits-then s t u m.filed n.filed;
-  waits = λ p c f. elim (end-cases os o p c) [
+  waits = λ p c f. elim (contains_cases-end os o p c) [
     | inl k ↦ n.filed.kept p (m.waits p k f)
     | inr e ↦ n.waits p (subst (Contains (o ∷ [])) (sym e) (contains_head o [])) (subst (λ v. IsFiled v p) (sym m.filed.same) f)
   ];
@@ -85,7 +75,7 @@ each-queued s t o filed (inr h) = subst (λ u. WaitEach s u (o ∷ [])) (sym h.1
     same = refl;
     kept = λ p k. Contains-append_left s.waiting (o ∷ []) p k;
     once = λ d. different-added s.waiting o d h.0;
-    from = λ p k. elim (end-cases s.waiting o p k) [
+    from = λ p k. elim (contains_cases-end s.waiting o p k) [
       | inl j ↦ inl j
       | inr e ↦ inr (subst (IsFiled s.filed) (sym e) filed)
     ];
@@ -127,7 +117,7 @@ module _ {D : Type 0} where
 
     pub user-only : (x p : ℕ) → Contains (users_of (with_user d c o) x) p → Contains (users_of d x) p ⊎ ((x ≡ c) × (p ≡ o))
     user-only x p h = elim (cases_eq x c) [
-      | inl e ↦ elim (end-cases (users_of d c) o p (subst (λ xs. Contains xs p) user-at (subst (λ y. Contains (users_of (with_user d c o) y) p) e h))) [
+      | inl e ↦ elim (contains_cases-end (users_of d c) o p (subst (λ xs. Contains xs p) user-at (subst (λ y. Contains (users_of (with_user d c o) y) p) e h))) [
         | inl k ↦ inl (subst (λ y. Contains (users_of d y) p) (sym e) k)
         | inr q ↦ inr (e, q)
       ]
@@ -154,7 +144,7 @@ module _ {D : Type 0} where
       entered = m.entered;
       rows = waits-then s t u m.rows more;
       kept = λ x p h. user-kept e (found_in k c) o within x p (m.kept x p h);
-      cover = λ x h. elim (end-cases cs c x h) [
+      cover = λ x h. elim (contains_cases-end cs c x h) [
         | inl j ↦ user-kept e (found_in k c) o within (found_in k x) o (m.cover x j)
         | inr q ↦ subst (λ y. Contains (users_of (with_user e (found_in k c) o) (found_in k y)) o) (sym q) (user-there e (found_in k c) o within)
       ];
@@ -165,7 +155,7 @@ module _ {D : Type 0} where
         ]
         | inr q ↦ inr (q.1, subst (λ xs. Contains xs x) (sym all) (subst (Contains (map (found_in k) cs ++ found_in k c ∷ [])) (sym q.0) (end-there (map (found_in k) cs) (found_in k c))))
       ];
-      waits = λ x h. elim (end-cases cs c x h) [
+      waits = λ x h. elim (contains_cases-end cs c x h) [
         | inl j ↦ elim (m.waits x j) [
           | inl l ↦ inl l
           | inr f ↦ inr (λ i. more.kept o (f i))

@@ -5,8 +5,8 @@ use Rattle.std.proofs.lemmas.Bool.{cases_eq, cases_lt, lt-ltb}
 use Rattle.std.proofs.lemmas.List.{length-drop, take-append-drop, take_all}
 use Rattle.std.proofs.lemmas.List.Elements.{Contains-append_cases, Contains-append_right}
 use Rattle.std.proofs.Math.ListN.{get_or-append}
+use Rattle.slotted_lists.proofs.Contained.{Contains-nil, Contains-map, Contains-of_map, map-agree}
 use Rattle.slotted_theory.specs.Nameless.{DTerm}
-use Rattle.slotted_theory.proofs.Lists.{Contains-nil, Contains-map, Contains-of_map}
 use Rattle.slotted_languages.specs.NodeTerm.{nameless_node}
 use Rattle.slotted_model.specs.Changes.{GoesOn}
 use Rattle.slotted_model.specs.Correspondence.{AllDifferent, identity}
@@ -40,7 +40,7 @@ use Rattle.slotted_data.specs.Lowering.{HasUsers, IsReady, TakesTurns, part_of, 
 use Rattle.slotted_data.specs.Burying.{Buries}
 use Rattle.slotted_data.specs.Carrying.{RestedBefore, Carried, CarriesUp}
 use Rattle.slotted_data.proofs.Grounding.{EachGrounded, each-grounds, grounded-later, grounds-each, new-grounded, run-grounded, stays-itself}
-use Rattle.slotted_data.proofs.NewData.{children-older, map-same}
+use Rattle.slotted_data.proofs.NewData.{children-older}
 use Rattle.slotted_data.proofs.Noting.{carried-noted}
 use Rattle.slotted_data.proofs.Rising.{users-same}
 use Rattle.slotted_data.proofs.TakenData.{zero-absorbs, row-within, row-source}
@@ -393,7 +393,7 @@ module _ {D : Type 0} (meaning : Meaning D) (law : IsMerge D (by_bare_nodes mean
           let is : made a (part_of x d2 t.waiting) w.shape ≡ data_in x e.values o =
           row-made (λ _. Unit {0}) a law (makes-alike meaning) (λ _ _ _ _. tt) newer rest (λ _ _. tt) (part_of x d2 t.waiting) w there
           ∙ (ap (λ (n : DTerm). a.make n (map (λ i. data_in x d2.values (found_in l i)) (child_classes n.args))) (sym (node-is l o h))
-          ∙ (ap (a.make (nameless_node (node_at l o))) (map-same (λ i. data_in x d2.values (found_in l i)) (λ i. data_in x e.values (source_class (entries_of l) o i)) (children_at l o) (λ ch child. new-sees x o ch h past child filed n))
+          ∙ (ap (a.make (nameless_node (node_at l o))) (map-agree (λ i. data_in x d2.values (found_in l i)) (λ i. data_in x e.values (source_class (entries_of l) o i)) (children_at l o) (λ ch child. new-sees x o ch h past child filed n))
           ∙ sym (new.made o (omega (arith, past, c)) (omega (arith, h, count)) x))) in
           subst (Absorbs a (data_in x d2.values (found_in l o))) (sym is) (goes-down x o h (λ old. absurd (omega (arith, old, past))))
 

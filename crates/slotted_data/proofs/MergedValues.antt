@@ -1,7 +1,7 @@
 -- A value that is merged into the data of a class at rest, and what comes to rest again.
 use Rattle.std.proofs.Common.{◌≡◌, ◌<◌, ℕ, List, [], ◌∷◌, length, true, false, Option, sym, ◌∙◌, refl, subst, arith, inl, inr}
 use Rattle.std.proofs.lemmas.Option.{slice_get-get_or}
-use Rattle.slotted_theory.proofs.Lists.{contains_head}
+use Rattle.slotted_lists.proofs.Contained.{contains_head}
 use Rattle.slotted_model.specs.Find.{IsLive}
 use Rattle.slotted_model.specs.State.{State}
 use Rattle.slotted_model.proofs.Finds.Finding.{Leads, leads, find_class-live, found-live, found-in_range}

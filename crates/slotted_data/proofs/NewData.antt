@@ -1,25 +1,26 @@
 -- The data of children one after another, and of new classes one after another.
-use Rattle.std.proofs.Common.{◌≡◌, ◌<◌, ◌≤◌, ℕ, zero, suc, ◌+◌, List, [], ◌∷◌, ◌++◌, length, map, take, true, false, Bool, cond, sym, ◌∙◌, ap, refl, subst, inl, inr, arith, append_assoc, append-nil}
-use Rattle.std.specs.Prelude.{◌⊎◌, ◌||◌, nat_lt, Contains, slice_get, slice_index_or, Some}
+use Rattle.std.proofs.Common.{◌≡◌, ◌<◌, ◌≤◌, ℕ, zero, suc, ◌+◌, List, [], ◌∷◌, ◌++◌, length, map, take, true, false, cond, sym, ◌∙◌, ap, refl, subst, inl, inr, arith, append_assoc, append-nil}
+use Rattle.std.specs.Prelude.{◌⊎◌, nat_lt, Contains, slice_get, slice_index_or, Some}
 use Rattle.std.proofs.lemmas.Bool.{cases_eq, ltb-true}
 use Rattle.std.proofs.lemmas.List.{take_more, map-append, length-append, length-map, take_all, get_or-map}
 use Rattle.std.proofs.lemmas.List.Elements.{Contains-append_left, Contains-append_right, Contains-append_cases}
 use Rattle.std.proofs.lemmas.Option.{get_or_from_slice_get}
 use Rattle.std.proofs.Math.ListN.{get_or-append}
+use Rattle.slotted_lists.proofs.Contained.{contains_head, contains_cases, Contains-nil, map-agree}
+use Rattle.slotted_lists.proofs.Booleans.{or-false, or-true}
+use Rattle.slotted_lists.proofs.Lists.{slice_get-append_end}
 use Rattle.slotted_theory.specs.Nameless.{DTerm}
-use Rattle.slotted_theory.proofs.Lists.{contains_head, contains_tail, contains_cases, Contains-nil}
 use Rattle.slotted_nodes.specs.Form.{Form, children, child_id}
 use Rattle.slotted_model.specs.Classes.{Canonical, IsFull, canonical_node}
 use Rattle.slotted_model.specs.Correspondence.{AllDifferent}
 use Rattle.slotted_model.specs.Find.{Entry, find_class}
 use Rattle.slotted_model.specs.State.{child_classes}
 use Rattle.slotted_model.proofs.Rebuilding.KeepingLookUps.{children-below}
+use Rattle.slotted_model.proofs.Rebuilding.Touching.{different-added}
 use Rattle.slotted_classes.specs.Kept.{Kept, node_at, nodes_of, entries_of}
 use Rattle.slotted_classes.proofs.KeptLists.{length-nodes_of}
 use Rattle.slotted_hashcons.specs.FiledRows.{HasChildrenBelow, key_children}
 use Rattle.slotted_classes.proofs.ClassNodes.{node-is}
-use Rattle.slotted_hashcons.proofs.Places.{at-append_end}
-use Rattle.slotted_hashcons.proofs.Flags.{different-added}
 use Rattle.slotted_hashcons.proofs.KeyChildren.{key_children-read}
 use Rattle.slotted_bare_nodes.specs.BareNodes.{bare_node}
 use Rattle.slotted_analyses.specs.Meaning.{Meaning}
@@ -95,19 +96,6 @@ none-added [] (suc c) = refl
 none-added (u ∷ us) zero = refl
 none-added (u ∷ us) (suc c) = none-added us c
 
-both-false : (a b : Bool) → (a || b) ≡ false → (a ≡ false) × (b ≡ false)
-both-false false b h = (refl, h)
-both-false true b h = cc
-
-or-true : (a b : Bool) → (a || b) ≡ true → (a ≡ true) ⊎ (b ≡ true)
-or-true true b h = inl refl
-or-true false b h = inr h
-
--- functions that agree on a list map it alike
-pub map-same : {X Y : Type 0} (f g : X → Y) (xs : List X) → ((x : X) → Contains xs x → f x ≡ g x) → map f xs ≡ map g xs
-map-same f g [] h = refl
-map-same f g (x ∷ xs) h = λ i. h x (contains_head x xs) i ∷ map-same f g xs (λ y c. h y (contains_tail x xs y c)) i
-
 pub source-within : (found : List Entry) (n c : ℕ) → c < n → source_class found n c < n
 source-within found n c within =
     elim (nat_lt (find_class found c) n) as (λ b. nat_lt (find_class found c) n ≡ b → cond b (find_class found c) c < n) [
@@ -119,7 +107,7 @@ module _ {D : Type 0} (a : Meaning D) (k : Kept) where
   -- what a node made of older classes stays, whatever classes come
   pub made-left : (x : D) (values more : List D) (i : ℕ) → i ≤ length values → HasChildrenBelow i (node_at k i) → made_in a k x (values ++ more) i ≡ made_in a k x values i
   made-left x values more i within older =
-      ap (a.make (bare_node (node_at k i))) (map-same (λ c. data_in x (values ++ more) (source_class (entries_of k) i c)) (λ c. data_in x values (source_class (entries_of k) i c)) (children_at k i)
+      ap (a.make (bare_node (node_at k i))) (map-agree (λ c. data_in x (values ++ more) (source_class (entries_of k) i c)) (λ c. data_in x values (source_class (entries_of k) i c)) (children_at k i)
       (λ c there.
       let below : source_class (entries_of k) i c < i = source-within (entries_of k) i c (older c there) in
       get_or-append values more x (source_class (entries_of k) i c) (omega arith)))
@@ -167,16 +155,16 @@ module _ {D : Type 0} (a : Meaning D) (k : Kept) where
       ]
       | inr q ↦ inr (let c = count in omega (arith, q))
     ];
-    still_low = λ h. s.still_low (both-false e.tall n.is_tall (sym n.new.tall ∙ h)).0;
+    still_low = λ h. s.still_low (or-false e.tall n.is_tall (sym n.new.tall ∙ h)).0;
     high = λ h. elim (or-true e.tall n.is_tall (sym n.new.tall ∙ h)) [
       | inl before ↦ s.high before
       | inr now ↦ inr (n.value, n.high now)
     ];
     low = λ h i l w x. elim (cases_eq i (length e.values)) [
-      | inl q ↦ subst (λ j. a.height (data_in x f.values j) ≡ 0) (sym q) (ap a.height (here x) ∙ n.low (both-false e.tall n.is_tall (sym n.new.tall ∙ h)).1)
+      | inl q ↦ subst (λ j. a.height (data_in x f.values j) ≡ 0) (sym q) (ap a.height (here x) ∙ n.low (or-false e.tall n.is_tall (sym n.new.tall ∙ h)).1)
       | inr d ↦
           let in_e : i < length e.values = (let c = count in omega arith) in
-          ap a.height (same i in_e x) ∙ s.low (both-false e.tall n.is_tall (sym n.new.tall ∙ h)).0 i l in_e x
+          ap a.height (same i in_e x) ∙ s.low (or-false e.tall n.is_tall (sym n.new.tall ∙ h)).0 i l in_e x
     ];
   }
     where
@@ -187,7 +175,7 @@ module _ {D : Type 0} (a : Meaning D) (k : Kept) where
       same i h x = ap (λ xs. data_in x xs i) n.new.values ∙ get_or-append e.values (n.value ∷ []) x i h
 
       here : (x : D) → data_in x f.values (length e.values) ≡ n.value
-      here x = ap (λ xs. data_in x xs (length e.values)) n.new.values ∙ get_or_from_slice_get (e.values ++ n.value ∷ []) (length e.values) n.value x (at-append_end e.values n.value)
+      here x = ap (λ xs. data_in x xs (length e.values)) n.new.values ∙ get_or_from_slice_get (e.values ++ n.value ∷ []) (length e.values) n.value x (slice_get-append_end e.values n.value)
 
       kept : (i : ℕ) → i ≤ length e.values → i < length k.classes → (x : D) → made_in a k x f.values i ≡ made_in a k x e.values i
       kept i h w x = ap (λ xs. made_in a k x xs i) n.new.values ∙ made-left x e.values (n.value ∷ []) i h (children-older k canonical i w)

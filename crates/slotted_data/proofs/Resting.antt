@@ -1,6 +1,6 @@
 -- Data at rest, for callers: the graph without classes, a graph in which nothing was done, and one that goes on.
 use Rattle.std.proofs.Common.{◌≡◌, ℕ, List, [], ◌++◌, sym, refl, subst, arith, append-nil, inl}
-use Rattle.slotted_theory.proofs.Lists.{Contains-nil}
+use Rattle.slotted_lists.proofs.Contained.{Contains-nil}
 use Rattle.slotted_model.specs.Changes.{GoesOn}
 use Rattle.slotted_model.specs.Rest.{AtRest}
 use Rattle.slotted_model.proofs.Rebuilding.Asserting.{nothing-rests}

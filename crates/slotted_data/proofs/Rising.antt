@@ -4,7 +4,7 @@ use Rattle.std.specs.Prelude.{Contains, min, nat_eq, slice_get, slice_index_or}
 use Rattle.std.proofs.Math.Nat.{min-eq_left, min-eq_right, mul-le-mul_left}
 use Rattle.std.proofs.lemmas.Bool.{cases_lt}
 use Rattle.std.proofs.lemmas.List.{set-get_or}
-use Rattle.slotted_theory.proofs.Lists.{Contains-nil, contains_head}
+use Rattle.slotted_lists.proofs.Contained.{Contains-nil, contains_head}
 use Rattle.slotted_model.specs.Correspondence.{AllDifferent}
 use Rattle.slotted_model.specs.Find.{Entry}
 use Rattle.slotted_model.specs.Rebuild.{without}

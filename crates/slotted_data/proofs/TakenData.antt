@@ -4,9 +4,9 @@ use Rattle.std.specs.Prelude.{Contains, nat_lt, slice_get}
 use Rattle.std.proofs.lemmas.Bool.{cases_eq}
 use Rattle.std.proofs.lemmas.List.{get_or-set_same, get_or-set_other, length-set}
 use Rattle.std.proofs.lemmas.Option.{get_or_from_slice_get, slice_get_within}
+use Rattle.slotted_lists.proofs.Contained.{Contains-nil, Contains-map, Contains-of_map, map-agree}
 use Rattle.slotted_theory.specs.Nameless.{DTerm}
 use Rattle.slotted_theory.specs.Shape.{shape}
-use Rattle.slotted_theory.proofs.Lists.{Contains-nil, Contains-map, Contains-of_map}
 use Rattle.slotted_nodes.specs.Form.{Form}
 use Rattle.slotted_languages.specs.NodeTerm.{nameless_node}
 use Rattle.slotted_model.specs.Classes.{canonical_node}
@@ -35,7 +35,7 @@ use Rattle.slotted_data.specs.Held.{Held, users_of}
 use Rattle.slotted_data.specs.Made.{data_in, children_at, child_values, source_class}
 use Rattle.slotted_data.specs.Users.{WaitEach, found_in}
 use Rattle.slotted_data.specs.Lowering.{quiet, part_of, FallsBy, heights_in, Puts, Lowers, HasUsers, SameUsers, MakesValue, TakesValue}
-use Rattle.slotted_data.proofs.NewData.{children-older, map-same, notes-once, notes-there, notes-kept, notes-from}
+use Rattle.slotted_data.proofs.NewData.{children-older, notes-once, notes-there, notes-kept, notes-from}
 
 -- data of height 0 absorbs everything
 pub zero-absorbs : {D : Type 0} (a : Analysis D) → IsMerge D a → (x v : D) → a.height x ≡ 0 → Absorbs a x v
@@ -192,7 +192,7 @@ module _ (k : Kept) (s : Rows) (rest : AtRest (state_in k (quiet s))) where
         let r0 : Row = row_of_entry (f, (o, m)) in
         let is : r ≡ r0 = one_row (rows_in s.filed) (sources-different s.filed) r r0 there (row-filed s.filed o f m at) source in
         let same : map (data_in x d.values) (key_children f) ≡ child_values k x d.values (length d.values) f =
-        map-same (data_in x d.values) (λ c. data_in x d.values (source_class (entries_of k) (length d.values) c)) (key_children f)
+        map-agree (data_in x d.values) (λ c. data_in x d.values (source_class (entries_of k) (length d.values) c)) (key_children f)
         (λ c h. ap (data_in x d.values) (sym (source-itself (length d.values) c (key-finds o f m at c h).1))) in
         ap (λ (q : Row). made (by_bare_nodes meaning) (part_of x d s.waiting) q.shape) is
         ∙ ((λ i. meaning.make (bare-shape (nameless_node f) i) (map (data_in x d.values) (row-children (f, (o, m)) i)))

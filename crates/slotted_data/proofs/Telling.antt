@@ -1,7 +1,7 @@
 -- What data at rest and carried data tell callers.
 use Rattle.std.proofs.Common.{◌≡◌, ◌<◌, ℕ, List, length, Some, sym, ◌∙◌, ap, subst, arith}
 use Rattle.std.proofs.lemmas.Option.{get_or_from_slice_get, slice_get_within, slice_get-get_or}
-use Rattle.slotted_theory.proofs.Lists.{Contains-nil}
+use Rattle.slotted_lists.proofs.Contained.{Contains-nil}
 use Rattle.slotted_model.specs.Find.{find_class}
 use Rattle.slotted_model.proofs.Finds.Finding.{leads, found-in_range}
 use Rattle.slotted_model_analyses.specs.Analysis.{Analysis, Absorbs}

@@ -9,14 +9,13 @@ use Rattle.slotted_slots.specs.Error.{IsShortage}
 use Rattle.slotted_nodes.specs.Form.{Form}
 use Rattle.slotted_model_rules.specs.Conditions.{Values}
 use Rattle.slotted_model.specs.Applied.{Applied}
-use Rattle.slotted_model.proofs.Data.Options.{Some-same}
 use Rattle.slotted_operations.specs.Graph.{Graph}
 use Rattle.slotted_operations.specs.ValidIds.{IsValidId}
 use Rattle.std.specs.Coded.{Coded}
+use Rattle.slotted_lists.proofs.Options.{Some-same}
 use Rattle.slotted_analyses.specs.Meaning.{IsMergeOf, Meaning}
 use Rattle.slotted_graph.specs.Analysed.{LowersData}
 use Rattle.slotted_graph.specs.Extension.{ExtendsTo}
-use Rattle.slotted_graph.proofs.Extending.{extends-then}
 use Rattle.slotted_graph.proofs.Saying.{lowers-then}
 use Rattle.slotted_deciding.specs.Equality.{IsDecidedGraph}
 use Rattle.slotted_rules.specs.Applying.{HasProgressed}
@@ -32,11 +31,6 @@ use Rattle.slotted_decided.specs.declared.running.DecidedStop.{DecidedStop}
 use Rattle.slotted_decided.specs.declared.running.DecidedStop.TheVariants.{NodeLimit, Saturated, TurnLimit, Undecided}
 use Rattle.slotted_decided.proofs.SaturatedMatches.{turn-matches}
 use Rattle.slotted_decided.specs.Turns.{EndsStill, GoesDecided, HasRunDecided, IsDecidedTurn, IsStillTurn, is_decided, turn_then}
-
--- a refused call leaves a failed graph, or one that the turn extends
-pub later-extends : (g f h : Graph) → ExtendsTo g f → IsTrue h.failed ⊎ ExtendsTo f h → IsTrue h.failed ⊎ ExtendsTo g h
-later-extends g f h first (inl failed) = inl failed
-later-extends g f h first (inr more) = inr (extends-then g f h first more)
 
 -- so it is of data
 pub later-lowers : {N D : Type 0} (codes : Coded N × Coded D) (meaning : N → Meaning D) (law : (n : N) → IsMergeOf (meaning n)) (g f h : Graph) → ExtendsTo g f → LowersData codes meaning g f → IsTrue h.failed ⊎ LowersData codes meaning f h →
@@ -190,11 +184,6 @@ never-undecided o is e = false≢true (sym (ap is_some is) ∙ ap is_some e)
 not_true : (b : Bool) → ¬ IsTrue b → b ≡ false
 not_true true n = absurd (n refl)
 not_true false n = refl
-
--- what holds unless a graph has failed holds of one that has not
-pub unless-failed : {P : Type 0} (b : Bool) → b ≡ false → IsTrue b ⊎ P → P
-unless-failed b well (inl failed) = absurd (false≢true (sym well ∙ failed))
-unless-failed b well (inr p) = p
 
 -- a turn that was taken leaves a graph that has not failed, and that extends the one before
 pub well-extends : {A : Type 0} (f h : Graph) (r : Result A Error) (x : A) → r ≡ Ok x → IsTrue h.failed ⊎ ExtendsTo f h → (IsTrue h.failed → IsErr r) → (h.failed ≡ false) × ExtendsTo f h

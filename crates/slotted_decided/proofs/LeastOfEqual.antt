@@ -1,7 +1,6 @@
 -- In a decided graph no equal term costs less than one of least cost.
-use Rattle.std.proofs.Common.{◌≡◌, ◌<◌, ◌∙◌, List, length, ap, subst, sym}
+use Rattle.std.proofs.Common.{◌≡◌, ◌∙◌, List, ap, subst, sym}
 use Rattle.std.specs.Prelude.{Some}
-use Rattle.std.proofs.lemmas.List.{length-map}
 use Rattle.slotted_theory.specs.Derives.{Equal}
 use Rattle.slotted_theory.specs.Nameless.{DTerm, nameless}
 use Rattle.slotted_theory.specs.Term.{Term}
@@ -24,6 +23,7 @@ use Rattle.slotted_classes.specs.Kept.{Kept, nodes_of}
 use Rattle.slotted_costs.specs.Costs.{cost_of_term}
 use Rattle.slotted_hashcons.specs.FiledRows.{Rows, rows_in}
 use Rattle.slotted_hashcons.specs.WellFiled.{state_in}
+use Rattle.slotted_rebuilding.proofs.LargeClasses.{full-within}
 use Rattle.slotted_operations.specs.Causes.{class_found}
 use Rattle.slotted_operations.specs.Good.{Good, RestsWith, image_of}
 use Rattle.slotted_operations.specs.Graph.{Graph}
@@ -34,9 +34,6 @@ use Rattle.slotted_operations.proofs.LookUps.States.{tree-is}
 use Rattle.slotted_graph.specs.LeastTerms.{IsLeastTerm}
 use Rattle.slotted_deciding.specs.Equality.{IsDecidedGraph}
 use Rattle.slotted_decided.specs.Extracted.{CostsLeastOfEqual}
-
-full-within : (k : Kept) (b : Applied) → IsFull (nodes_of k) b → b.0 < length k.classes
-full-within k b full = subst (λ n. b.0 < n) (length-map k.classes _) full.in_range
 
 module _ (k : Kept) (r : Rows) (good : Good k) (rests : RestsWith k r) where
   state : State

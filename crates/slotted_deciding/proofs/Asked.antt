@@ -1,5 +1,5 @@
 -- What a decided graph says of two ids and of two terms.
-use Rattle.std.proofs.Common.{◌≡◌, ◌∙◌, List, Result, Ok, Err, IfOk, OnOk, sym, subst}
+use Rattle.std.proofs.Common.{◌≡◌, ◌∙◌, List, sym, subst}
 use Rattle.std.specs.Prelude.{Bool, true, false}
 use Rattle.std.proofs.lemmas.Bool.{false≢true}
 use Rattle.slotted_theory.specs.Derives.{Equal}
@@ -62,8 +62,3 @@ explained-terms h a b t u one two Undecided is = record {
   right_term = two.term;
   apart = is;
 }
-
--- of an answer P holds, and K in every case, of which Q follows
-pub ok-with : {T E : Type 0} (r : Result T E) (K : Type 0) (P Q : T → Type 0) → ((x : T) → K → P x → Q x) → OnOk r K → IfOk r P → IfOk r Q
-ok-with (Ok x) K P Q f k p = f x k p
-ok-with (Err e) K P Q f k p = tt

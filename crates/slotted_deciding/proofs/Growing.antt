@@ -13,50 +13,20 @@ use Rattle.slotted_operations.specs.Explaining.{AddsTerms, KeepsClasses}
 use Rattle.slotted_operations.specs.Graph.{Graph, OnlyTakesSlots}
 use Rattle.slotted_operations.specs.Image.{Image, asserted_in, found_id}
 use Rattle.slotted_operations.specs.LookUp.{look_up}
-use Rattle.slotted_operations.proofs.Graphs.FreshSlots.{fresh_slots-more}
-use Rattle.slotted_graph.specs.States.{IsGraph, IsStateOf}
+use Rattle.slotted_graph.specs.States.{IsGraph}
 use Rattle.slotted_graph.proofs.Extending.{extends-added, extends-itself, extends-takes, extends-then}
-use Rattle.slotted_model.specs.State.{State}
 use Rattle.slotted_deciding.specs.Equality.{EqualUpTo, IsDecidedGraph, IsTwist}
 use Rattle.slotted_deciding.specs.Settling.{ClassIsSettled, IsLookedUpAs, child_at, with_child_at}
 use Rattle.slotted_analyses.specs.Meaning.{IsMergeOf, Meaning}
 use Rattle.slotted_graph.specs.Analysed.{LowersData}
 use Rattle.slotted_graph.proofs.Saying.{lowers-itself, lowers-same, lowers-then}
+use Rattle.slotted_graph.proofs.StatesLater.{state-takes, graph-takes}
 use Rattle.slotted_deciding.specs.Steps.{GoesTo, LeadsTo}
 use Rattle.slotted_deciding.proofs.Settled.{settled-decided}
-
--- fresh slots leave a state one
-pub state-takes : (g h : Graph) (x : State) → IsStateOf g x → OnlyTakesSlots g h → IsStateOf h x
-state-takes g h x s takes = record {
-  kept = s.kept;
-  rows = s.rows;
-  good = s.good;
-  rests = s.rests;
-  fresh = fresh_slots-more g.table h.table s.kept takes.reads.more s.fresh;
-  image = s.image ∙ sym takes.reads.image;
-  filed = s.filed ∙ sym takes.reads.filed;
-  state = s.state;
-}
-
--- fresh slots leave a graph one
-pub graph-takes : (g h : Graph) → IsGraph g → OnlyTakesSlots g h → IsGraph h
-graph-takes g h is takes = record { well = takes.reads.failed ∙ is.well; state = is.state; is_state = state-takes g h is.state is.is_state takes }
 
 -- a decided graph stays so if it only takes slots
 pub decided-takes : (g h : Graph) → OnlyTakesSlots g h → IsDecidedGraph g → IsDecidedGraph h
 decided-takes g h takes (x, is, decided) = (x, state-takes g h x is takes, decided)
-
-pub takes-then : (f g h : Graph) → OnlyTakesSlots f g → OnlyTakesSlots g h → OnlyTakesSlots f h
-takes-then f g h d e = record {
-  reads = record {
-    image = e.reads.image ∙ d.reads.image;
-    filed = e.reads.filed ∙ d.reads.filed;
-    part = e.reads.part ∙ d.reads.part;
-    failed = e.reads.failed ∙ d.reads.failed;
-    more = λ s k. e.reads.more s (d.reads.more s k);
-  };
-  names = e.names ∙ d.names;
-}
 
 pub takes-itself : (g : Graph) → OnlyTakesSlots g g
 takes-itself g = record { reads = record { image = refl; filed = refl; part = refl; failed = refl; more = λ s k. k }; names = refl }

@@ -3,6 +3,7 @@ use Rattle.std.proofs.Common.{◌≡◌, ◌∙◌, sym, ap, subst, refl}
 use Rattle.std.proofs.lemmas.Bool.{false≢true}
 use Rattle.std.proofs.lemmas.Result.{IfOk-weaker}
 use Rattle.std.specs.Prelude.{Bool, false, Result, Ok, Err, Option, Some, None, IsTrue, IfOk, IfSome, IsSome, IsSomeAnd, ◌↔◌, option_map}
+use Rattle.slotted_lists.proofs.Options.{Some-same}
 use Rattle.slotted_theory.specs.Term.{Term}
 use Rattle.slotted_theory.specs.Nameless.{DTerm, nameless}
 use Rattle.slotted_theory.specs.Derives.{joined, turned}
@@ -11,7 +12,6 @@ use Rattle.slotted_slots.specs.declared.types.AppliedId.{AppliedId}
 use Rattle.slotted_nodes.specs.Form.{Form}
 use Rattle.slotted_model.specs.Applied.{Applied}
 use Rattle.slotted_model.specs.Ids.{id_of}
-use Rattle.slotted_model.proofs.Data.Options.{Some-same}
 use Rattle.slotted_explain.specs.Adding.{IsEqualToNode}
 use Rattle.slotted_explain.specs.ValidIds.{SaysFillingsEqual}
 use Rattle.slotted_explain.specs.Graph.{Graph, id_of_term}

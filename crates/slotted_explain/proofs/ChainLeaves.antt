@@ -2,7 +2,7 @@
 use Rattle.std.proofs.Common.{◌≡◌, ℕ, suc, ◌<◌, List, [], ◌∷◌, ◌++◌, length, Bool, true, false, cond, refl, sym, ap, ◌∙◌, subst, inl, inr, arith}
 use Rattle.std.specs.Prelude.{not, Contains, ◌↔◌}
 use Rattle.std.proofs.lemmas.List.Elements.{Contains-append_cases, Contains-append_left, Contains-append_right}
-use Rattle.slotted_theory.proofs.Lists.{contains_cases, contains_head, contains_tail, Contains-nil}
+use Rattle.slotted_lists.proofs.Contained.{contains_cases, contains_head, contains_tail, Contains-nil}
 use Rattle.slotted_model.specs.Leaves.{IsLeaf, here, through, parts_of}
 use Rattle.slotted_model.specs.ProofList.{Step, explicit, reflexive, symmetric, transitive, congruent, step_at}
 use Rattle.slotted_proofs.specs.Entries.{Proven, entries_of, is_explicit, proven_at}

@@ -1,8 +1,8 @@
 -- The entries of a proof's lines stand in the list.
 use Rattle.std.proofs.Common.{◌<◌, ℕ, List, [], ◌∷◌, ◌++◌, length, arith}
+use Rattle.slotted_lists.proofs.Each.{Each, Each-from_All}
 use Rattle.slotted_proofs.specs.Entries.{Proven}
 use Rattle.slotted_proofs.specs.Lines.{Lines, all, passed, next, PartsAreEarlier, parts_at}
-use Rattle.slotted_classes.proofs.ChildIds.{Each, Each-from_All}
 
 each_both : (n : ℕ) (xs ys : List ℕ) → Each (λ q. q < n) xs → Each (λ q. q < n) ys → Each (λ q. q < n) (xs ++ ys)
 each_both n [] ys h k = k

@@ -6,6 +6,8 @@ use Rattle.std.specs.Coded.{Coded}
 use Rattle.std.specs.List.{filter}
 use Rattle.std.specs.List.Sorted.{IsPermutation, IsSorted}
 use Rattle.std.specs.Ordering.{nat_cmp}
+use Rattle.slotted_lists.proofs.Contained.{map-agree}
+use Rattle.slotted_lists.proofs.Options.{Some-same}
 use Rattle.slotted_slots.specs.declared.error.Error.{Error}
 use Rattle.slotted_model.specs.Applied.{Applied}
 use Rattle.slotted_model.specs.Changes.{GoesOn}
@@ -29,7 +31,6 @@ use Rattle.slotted_data.specs.Part.{Part, part_by, part_code, part_in}
 use Rattle.slotted_data.specs.Users.{found_in}
 use Rattle.slotted_data.proofs.Grounding.{goes-stays, grounded-later, stays-named, stays-then}
 use Rattle.slotted_data.specs.Pending.{ArePending, lives_in}
-use Rattle.slotted_data.proofs.NewData.{map-same}
 use Rattle.slotted_data.proofs.Resting.{rests-proved}
 use Rattle.slotted_data.proofs.TakenData.{row-child, row-within}
 use Rattle.slotted_data.proofs.Telling.{carried-falls, carried-notes, rest-absorbs, rest-has}
@@ -87,7 +88,7 @@ module _ {N D : Type 0} (codes : Coded N × Coded D) (meaning : N → Meaning D)
           let row : Contains (rows_in r.filed) w = subst (λ ws. Contains ws w) (sym filed) there in
           let a = by_bare_nodes (meaning n) in
           let children : map (datum_in g (part_in n m d) x) (child_classes w.shape.args) ≡ map (data_in x d.values) (child_classes w.shape.args) =
-          map-same (datum_in g (part_in n m d) x) (data_in x d.values) (child_classes w.shape.args) (λ c h.
+          map-agree (datum_in g (part_in n m d) x) (data_in x d.values) (child_classes w.shape.args) (λ c h.
           let live = row-child k r still-rest w row c h in
           datum-is x c live.0 ∙ ap (data_in x d.values) live.1) in
           subst (λ y. Absorbs a y (a.make w.shape (map (datum_in g (part_in n m d) x) (child_classes w.shape.args)))) (sym (datum-is x w.source (row-within k r still-rest w row)))
@@ -223,9 +224,6 @@ takes-pending codes meaning n m k r good d e g h image before after rests left i
 pub one-part : {N D : Type 0} (codes : Coded N × Coded D) (g : Graph) (p q : Part N D) → KeepsPart codes g p → KeepsPart codes g q → p ≡ q
 one-part codes g p q first second = (part_code codes).inj p q (sym first ∙ second)
 
-one-some : {A : Type 0} (a b : A) → Some a ≡ Some b → a ≡ b
-one-some a b same = cc
-
 pub one-datum : {N D : Type 0} (codes : Coded N × Coded D) (g : Graph) (i : ℕ) (x y : D) → HasData codes g i x → HasData codes g i y → x ≡ y
 one-datum codes g i x y a b =
-    one-some x y (sym a.is ∙ ap (λ (p : Part _ _). slice_get p.values (class_found g.image i)) (one-part codes g a.part b.part a.keeps b.keeps) ∙ b.is)
+    Some-same x y (sym a.is ∙ ap (λ (p : Part _ _). slice_get p.values (class_found g.image i)) (one-part codes g a.part b.part a.keeps b.keeps) ∙ b.is)

@@ -1,7 +1,7 @@
 -- The classes of a node's children.
 use Rattle.std.proofs.Common.{◌≡◌, ◌<◌, ◌∙◌, ℕ, List, [], length, get_or, ap, sym, subst}
 use Rattle.std.specs.Prelude.{Contains, slice_index_or}
-use Rattle.std.proofs.lemmas.List.{get_or-map, length-map}
+use Rattle.std.proofs.lemmas.List.{get_or-map}
 use Rattle.std.proofs.lemmas.List.Elements.{Contains-get_or}
 use Rattle.slotted_nodes.specs.Form.{Form, children}
 use Rattle.slotted_languages.specs.Fresh.{IsRenamedFresh}
@@ -14,10 +14,7 @@ use Rattle.slotted_classes.specs.ChildIds.{child_ids}
 use Rattle.slotted_classes.proofs.ChildIds.{ids-at}
 use Rattle.slotted_hashcons.specs.FiledRows.{key_children}
 use Rattle.slotted_hashcons.proofs.KeyChildren.{key_children-read}
-
--- as many as there are children
-pub length-key_children : (f : Form) → length (key_children f) ≡ length (children f.tree)
-length-key_children f = ap length (key_children-read f) ∙ length-map (children f.tree) (λ (p : ℕ × List ℕ). p.0)
+use Rattle.slotted_data.proofs.NewData.{children-count}
 
 -- each is the class of the id that stands there
 pub class-of_child : (f : Form) (k : ℕ) (d : Applied) → k < length (children f.tree) → get_or (key_children f) k 0 ≡ (slice_index_or (child_ids f) k d).0
@@ -29,7 +26,7 @@ class-of_child f k d lt =
 pub child-contained : (f : Form) (k : ℕ) (d : Applied) → k < length (children f.tree) → Contains (key_children f) (slice_index_or (child_ids f) k d).0
 child-contained f k d lt =
     subst (Contains (key_children f)) (class-of_child f k d lt)
-    (Contains-get_or (key_children f) k 0 (subst (λ n. k < n) (sym (length-key_children f)) lt))
+    (Contains-get_or (key_children f) k 0 (subst (λ n. k < n) (sym (children-count f)) lt))
 
 -- a node with other names has children of the same classes
 pub children-renamed : (t : Table) (m : List (ℕ × ℕ)) (f g : Form) → IsRenamedFresh t m f g → key_children g ≡ key_children f

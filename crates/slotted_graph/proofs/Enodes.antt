@@ -1,5 +1,5 @@
 -- The filed nodes of a class, as contracts see them and as they are filed.
-use Rattle.std.proofs.Common.{◌≡◌, ◌≤◌, ◌<◌, ◌+◌, ◌∙◌, ℕ, zero, suc, List, [], ◌∷◌, Some, cond, length, map, ap, refl, sym, subst, inl, inr, arith}
+use Rattle.std.proofs.Common.{◌≡◌, ◌≤◌, ◌<◌, ◌+◌, ◌∙◌, ℕ, List, [], ◌∷◌, Some, length, map, ap, refl, sym, subst, inl, inr, arith}
 use Rattle.std.specs.Prelude.{All, Bool, Contains, IsTrue, is_some, nat_eq, ◌&&◌}
 use Rattle.std.specs.List.{filter, range_with_len, sum_by}
 use Rattle.std.specs.List.Sorted.{IsPermutation}
@@ -7,6 +7,9 @@ use Rattle.std.proofs.lemmas.List.{length-map}
 use Rattle.std.proofs.lemmas.List.Elements.{All-contains}
 use Rattle.std.proofs.lemmas.List.Sorted.{IsPermutation-refl, length_permutation, sum_by-IsPermutation}
 use Rattle.std.proofs.lemmas.List.Sums.{sum_by-cons}
+use Rattle.slotted_lists.proofs.Members.{Contains-In}
+use Rattle.slotted_lists.proofs.Each.{Each, Each-from_All}
+use Rattle.slotted_lists.proofs.Lists.{length-zero as empty, filter-agrees}
 use Rattle.slotted_theory.specs.Nameless.{DTerm}
 use Rattle.slotted_theory.specs.Shape as theory
 use Rattle.slotted_slots.specs.Table.{Table, is_known, slot_limit, AllKnown}
@@ -17,11 +20,9 @@ use Rattle.slotted_languages.specs.Shape.{Fits}
 use Rattle.slotted_model.specs.Applied.{Applied, values}
 use Rattle.slotted_model.specs.Find.{find_class}
 use Rattle.slotted_model.specs.State.{Row}
-use Rattle.slotted_model.proofs.Data.Members.{Contains-In}
 use Rattle.slotted_classes.specs.Finding.{IsFindable}
 use Rattle.slotted_classes.specs.Kept.{Kept, entries_of}
 use Rattle.slotted_classes.specs.ChildIds.{child_ids}
-use Rattle.slotted_classes.proofs.ChildIds.{Each, Each-from_All}
 use Rattle.slotted_classes.proofs.KeptLists.{length-nodes_of}
 use Rattle.slotted_classes.proofs.NameMaps.{In-at}
 use Rattle.slotted_hashcons.specs.Filed.{filed_of}
@@ -44,27 +45,15 @@ use Rattle.slotted_operations.proofs.Ids.CanonicalTerms.{places-counted}
 use Rattle.slotted_operations.proofs.Graphs.Images.{class_found-is, found_id-is}
 use Rattle.slotted_operations.proofs.LookUps.States.{looked_up-is}
 use Rattle.slotted_operations.proofs.Ids.ValidIds.{findable-children, findable-within, node-children_valid}
-use Rattle.slotted_graph.proofs.Names.{count-moved}
+use Rattle.slotted_operations.proofs.Ids.NodesOfIds.{args_count-moved}
 use Rattle.slotted_graph.specs.FiledNodes.{CanRunOutForDump, CanRunOutForEnodes, HasEachNode, HasLargeRow, HasLargeRowOf, IsEnode, shapes_found, slots_for_dump, slots_for_enodes}
-
--- tests that agree on a range let the same numbers through
-filter-agrees : (f g : ℕ → Bool) (s n : ℕ) → ((i : ℕ) → s ≤ i → i < s + n → f i ≡ g i) → filter f (range_with_len s n) ≡ filter g (range_with_len s n)
-filter-agrees f g s zero same = refl
-filter-agrees f g s (suc n) same =
-    let e : f s ≡ g s = same s (omega arith) (omega arith) in
-    let r : filter f (range_with_len (s + 1) n) ≡ filter g (range_with_len (s + 1) n) = filter-agrees f g (s + 1) n (λ i l h. same i (omega arith) (omega arith)) in
-    λ j. cond (e j) (s ∷ r j) (r j)
 
 sum-mapped : (f : DTerm → ℕ) (g : ℕ → DTerm) (h : ℕ → ℕ) (os : List ℕ) → Each (λ o. f (g o) ≡ h o) os → sum_by f (map g os) ≡ sum_by h os
 sum-mapped f g h [] e = refl
 sum-mapped f g h (o ∷ os) e = omega (arith, e.0, sum-mapped f g h os e.1, sum_by-cons f (g o) (map g os), sum_by-cons h o os)
 
-empty : {X : Type 0} (xs : List X) → length xs ≡ 0 → xs ≡ []
-empty [] e = refl
-empty (x ∷ xs) e = absurd (omega (arith, e))
-
 pub places-of_shape : (f : Form) → Fits f → place_count (theory.shape (nameless_node f)) ≡ length f.names
-places-of_shape f fits = count-moved (theory.number_in (theory.free_names (nameless_node f).args)) (nameless_node f).args ∙ places-counted f fits
+places-of_shape f fits = args_count-moved (theory.number_in (theory.free_names (nameless_node f).args)) (nameless_node f).args ∙ places-counted f fits
 
 -- a list in its own order
 pub permuted-same : {X : Type 0} (xs ys : List X) → xs ≡ ys → IsPermutation ys xs

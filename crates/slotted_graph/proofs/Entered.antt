@@ -3,12 +3,13 @@ use Rattle.std.proofs.Common.{◌≡◌, ◌<◌, ◌∙◌, ℕ, zero, suc, Lis
 use Rattle.std.specs.Prelude.{◌⊎◌, Contains, slice_get}
 use Rattle.std.proofs.lemmas.Bool.{cases_eq, cases_lt}
 use Rattle.std.proofs.lemmas.Option.{slice_get-map}
-use Rattle.slotted_theory.proofs.Lists.{contains_head, contains_tail}
+use Rattle.slotted_lists.proofs.Contained.{contains_head, contains_tail}
+use Rattle.slotted_lists.proofs.Options.{Some-same}
 use Rattle.slotted_nodes.specs.Form.{Form}
 use Rattle.slotted_model.specs.Cost.{CostFunction}
 use Rattle.slotted_model.specs.State.{State, child_classes}
 use Rattle.slotted_model.specs.Extraction.{CanEnterTable, IsInOrder, TableEntry, cost_in, costs_in}
-use Rattle.slotted_model.proofs.Data.Options.{None-Some, Some-same, option_map-some}
+use Rattle.slotted_model.proofs.Data.Options.{None-Some, option_map-some}
 use Rattle.slotted_model.proofs.LeastTerms.Tables.{cost-here, cost-later, costs-each, entry-new}
 use Rattle.slotted_hashcons.specs.FiledRows.{key_children}
 use Rattle.slotted_hashcons.proofs.FiledRows.{row-children}

@@ -1,6 +1,7 @@
 -- What is made of least entries for an id: its look-up, its cost, which no other goes below, and what it equals.
 use Rattle.std.proofs.Common.{◌≡◌, ◌∙◌, ℕ, List, [], Option, Some, ap, subst, sym}
 use Rattle.std.specs.Prelude.{option_map}
+use Rattle.slotted_lists.proofs.Options.{Some-same}
 use Rattle.slotted_theory.specs.Derives.{Equal}
 use Rattle.slotted_theory.specs.Nameless.{DTerm, nameless}
 use Rattle.slotted_theory.specs.Term.{Term}
@@ -19,7 +20,6 @@ use Rattle.slotted_model.proofs.LeastTerms.Cheapest.{least-equal, least-represen
 use Rattle.slotted_model.proofs.LeastTerms.Extracting.{extracted-cost, extracted-look_up, extracted-tree}
 use Rattle.slotted_model.proofs.Complete.LookUpsAreEqual.{found-equal}
 use Rattle.slotted_model.proofs.Finds.NormalIds.{filling-found}
-use Rattle.slotted_model.proofs.Data.Options.{Some-same}
 use Rattle.slotted_classes.specs.Finding.{IsFindable}
 use Rattle.slotted_classes.specs.Kept.{Kept, entries_of}
 use Rattle.slotted_hashcons.specs.FiledRows.{Rows}

@@ -1,21 +1,20 @@
 -- What a search over what is kept and filed finds, as a search over the graph.
-use Rattle.std.proofs.Common.{◌≡◌, ◌∙◌, ◌<◌, ◌+◌, ℕ, suc, arith, List, [], ◌∷◌, ◌++◌, Some, length, ap, refl, sym, subst, inl, inr}
+use Rattle.std.proofs.Common.{◌≡◌, ◌∙◌, ◌<◌, ◌+◌, ℕ, arith, List, [], ◌∷◌, ◌++◌, Some, length, ap, refl, sym, subst, inl, inr}
 use Rattle.std.proofs.lemmas.Bool.{false≢true}
 use Rattle.std.specs.Prelude.{Bool, true, false, cond, slice_index_or, Contains, map, Result, Ok, Err, IfOk}
 use Rattle.std.proofs.lemmas.List.Elements.{Contains-append_left, Contains-append_right}
 use Rattle.std.proofs.lemmas.List.{get_or_default}
+use Rattle.slotted_lists.proofs.Members.{In, In-Contains, Contains-In}
 use Rattle.slotted_slots.specs.declared.error.Error.{Error}
 use Rattle.slotted_slots.specs.Table.{Table, AllKnown}
 use Rattle.slotted_nodes.specs.Form.{Form, children}
 use Rattle.slotted_languages.specs.Shape.{Fits}
 use Rattle.slotted_languages.specs.NodeTerm.{nameless_node}
 use Rattle.slotted_theory.specs.Decided.{numbers_eq}
-use Rattle.slotted_theory.specs.Nameless.{DArgs, stop, place, sub, scope, lift, moved_args}
 use Rattle.slotted_theory.specs.Shape.{free_names, number_in, shape}
 use Rattle.slotted_model.specs.Cost.{child_count}
 use Rattle.slotted_model.specs.State.{Row}
 use Rattle.slotted_model.specs.Applied.{values}
-use Rattle.slotted_model.proofs.Data.Members.{In, In-Contains, Contains-In}
 use Rattle.slotted_model_rules.specs.Conditions.{Values}
 use Rattle.slotted_model_rules.specs.Matcher.{value_at}
 use Rattle.slotted_model_rules.specs.Patterns.{Pattern, PatternArgs, EachVariable, EachVariableIn, pattern_node, variable, replacing, no_argument, own_name, child_pattern, binding}
@@ -32,7 +31,7 @@ use Rattle.slotted_classes.specs.Kept.{Kept}
 use Rattle.slotted_hashcons.specs.FiledRows.{Rows, row_of_entry, rows_in}
 use Rattle.slotted_hashcons.proofs.FiledRows.{row-filed}
 use Rattle.slotted_lookup.proofs.AppliedNodes.{filed-key}
-use Rattle.slotted_bare_nodes.proofs.Alike.{count-node}
+use Rattle.slotted_bare_nodes.proofs.Alike.{count-node, count-moved}
 use Rattle.slotted_hashcons.specs.WellFiled.{state_in}
 use Rattle.slotted_operations.specs.Good.{Good, RestsWith, HasFreshSlots, image_of}
 use Rattle.slotted_operations.specs.Graph.{Graph}
@@ -84,13 +83,6 @@ valued-entry (e ∷ s) v i = by (valued-entry s v) (numbers_eq e.0 v) refl
 known-all : (g : Graph) (xs : List ℕ) → KnowsEach g.table xs → AllKnown g.table xs
 known-all g xs h = λ j d l. h (slice_index_or xs j d) (j, l, get_or_default xs j (slice_index_or xs j d) d l)
 
--- names are moved, and children stay as many
-child_count-moved : (ρ : ℕ → ℕ) (d : DArgs) → child_count (moved_args ρ d) ≡ child_count d
-child_count-moved ρ stop = refl
-child_count-moved ρ (place x rest) = child_count-moved ρ rest
-child_count-moved ρ (sub op payloads args rest) = ap suc (child_count-moved ρ rest)
-child_count-moved ρ (scope inner rest) = λ i. child_count-moved (lift ρ) inner i + child_count-moved ρ rest i
-
 module _ (h : Graph) (k : Kept) (r : Rows) (good : Good k) (rests : RestsWith k r) (fresh : HasFreshSlots h.table k) (image : image_of k ≡ h.image) (filed : rows_in r.filed ≡ h.filed) where
   abbrev is_state : IsStateOf h (state_in k r)
   is_state = record { kept = k; rows = r; good = good; rests = rests; fresh = fresh; image = image; filed = filed; state = refl }
@@ -113,7 +105,7 @@ module _ (h : Graph) (k : Kept) (r : Rows) (good : Good k) (rests : RestsWith k 
       let f : Form = x.1 in
       let row : Row = row_of_entry (f, (x.0, x.2.0)) in
       let fits : Fits f = (filed-key k r rests.filed x.0 f x.2.0 x.2.1).fits in
-      let count : child_count (shape (nameless_node f)).args ≡ length (children f.tree) = child_count-moved (number_in (free_names (nameless_node f).args)) (nameless_node f).args ∙ count-node f in
+      let count : child_count (shape (nameless_node f)).args ≡ length (children f.tree) = count-moved (number_in (free_names (nameless_node f).args)) (nameless_node f).args ∙ count-node f in
       (row, subst (λ rs. Contains rs row) filed (row-filed r.filed x.0 f x.2.0 x.2.1), omega (arith, x.3, places-of_shape f fits, count))
 
   module _ (t : PatternTree) (found : List Values) where
@@ -135,10 +127,6 @@ takes-in t F G h u v takes p e = let n = takes p e in (n.0, h p n.0 n.1, n.2)
 
 pub runs_out-in : (t : PatternTree) (F G : Pattern → List Values → Type 0) → ((p : Pattern) (found : List Values) → F p found → G p found) → (u v : Table) → RunsOutFor t F u v → RunsOutFor t G u v
 runs_out-in t F G h u v out p e = let n = out p e in (n.0, h p n.0 n.1, n.2)
-
-pub ok-with : {A : Type 0} {P Q : A → Type 0} (o : Result A Error) → IfOk o P → ((a : A) → P a → Q a) → IfOk o Q
-ok-with (Ok a) h f = f a h
-ok-with (Err e) h f = tt
 
 pub ok-three_of : {A : Type 0} {P Q R S : A → Type 0} (o : Result A Error) → IfOk o P → IfOk o Q → IfOk o R → ((a : A) → P a → Q a → R a → S a) → IfOk o S
 ok-three_of (Ok a) h i j f = f a h i j

@@ -5,11 +5,11 @@ use Rattle.std.specs.List.{All, AllByRecursion}
 use Rattle.std.proofs.lemmas.Bool.{false≢true}
 use Rattle.std.proofs.lemmas.List.{length-drop, length-take-le, take-append-drop}
 use Rattle.std.proofs.lemmas.List.Elements.{All-from_recursion}
+use Rattle.slotted_lists.proofs.Members.{In, In-Contains}
 use Rattle.slotted_theory.specs.Decided.{numbers_eq}
 use Rattle.slotted_theory.proofs.Decides.{numbers_eq-same}
 use Rattle.slotted_nodes.specs.Form.{Tree, leaf, own, child, bind, scopes, children}
 use Rattle.slotted_patterns.specs.Tree.{PatternTree, enode, pvar, substitution, PatternRow, no_more, one_more}
-use Rattle.slotted_model.proofs.Data.Members.{In, In-Contains}
 use Rattle.slotted_model_rules.specs.Conditions.{Values}
 use Rattle.slotted_model_rules.specs.Matcher.{value_at}
 use Rattle.slotted_model_rules.specs.Patterns.{Pattern, variable, EachVariable, EachVariableIn}

@@ -4,11 +4,13 @@ use Rattle.std.specs.Prelude.{◌&&◌, ◌==◌, All, IsSome, slice_index}
 use Rattle.std.proofs.lemmas.Bool.{and_parts, cases_Bool, eqb-true, false≢true, or_cases}
 use Rattle.std.proofs.lemmas.List.{get_or-append-add, get_or-drop, get_or-take, get_or_append_left, get_or_default, length-drop, length-take-le}
 use Rattle.std.proofs.lemmas.List.Elements.{All-drop, All-tail, All-take}
+use Rattle.slotted_lists.proofs.Members.{In}
+use Rattle.slotted_lists.proofs.Maps.{is_among-In, In-is_among}
 use Rattle.slotted_theory.specs.Term.{Args, Term, done, name}
 use Rattle.slotted_theory.specs.Term.{bind as bound, child as arguments}
 use Rattle.slotted_slots.specs.Maps.{is_among}
 use Rattle.slotted_slots.specs.Table.{KnowsMore, Table, is_known}
-use Rattle.slotted_nodes.specs.Form.{Form, Tree, leaf, own, child, bind, children, end_at, scope_end_of, scopes}
+use Rattle.slotted_nodes.specs.Form.{Form, Tree, leaf, own, child, bind, children, scope_end_of, scopes}
 use Rattle.slotted_nodes.specs.Public.{is_bound_by, reaches}
 use Rattle.slotted_nodes.proofs.PublicPlaces.{is_public-true}
 use Rattle.slotted_languages.specs.Children.{IsBinder}
@@ -22,14 +24,13 @@ use Rattle.slotted_languages.proofs.NodeTerms.{child_rest_fits}
 use Rattle.slotted_languages.proofs.Shapes.{shape-same}
 use Rattle.slotted_model.specs.Applied.{values}
 use Rattle.slotted_model.specs.Correspondence.{composite}
-use Rattle.slotted_model.proofs.Data.Members.{In}
 use Rattle.slotted_model.proofs.Data.Theory.{moved-id}
+use Rattle.slotted_model.proofs.Correspondences.Pairs.{In-values_composite}
 use Rattle.slotted_classes.proofs.NameMaps.{at_In}
-use Rattle.slotted_lookup.proofs.ReportLists.{In-among}
 use Rattle.slotted_operations.proofs.TermsOverIds.Layers.{length-parts}
 use Rattle.slotted_reports.specs.Nodes.{HasFreshNames}
-use Rattle.slotted_reports.proofs.FiledNodes.{among-in, name-of}
 use Rattle.slotted_reports.proofs.FreshNodes.{free-renamed, unknown-before}
+use Rattle.slotted_rule_patterns.proofs.NodeArguments.{some_end}
 use Rattle.slotted_graph.specs.Terms.{HasNewNames, IsFreshTerm, IsGivenOrNew}
 
 -- a node with the names ws, which are given or new themselves, and new ones
@@ -37,7 +38,7 @@ pub fresh-before : (t u : Table) → KnowsMore t u → (vs ws : List ℕ) → Al
 fresh-before t u more vs ws given f is = record {
   binders = λ j l e. unknown-before t u more _ (is.binders j l e);
   free = λ x h. elim (is.free x h) [
-    | inl y ↦ at_In (IsGivenOrNew t vs) ws given x (among-in ws x y)
+    | inl y ↦ at_In (IsGivenOrNew t vs) ws given x (is_among-In ws x y)
     | inr n ↦ inr (unknown-before t u more x n)
   ];
 }
@@ -84,7 +85,7 @@ fresh-named t u more m B A is_m key b c renamed fits_b fits_c same unknown =
     record { by = renamed.by; known = renamed.known; unused = renamed.unused; apart = renamed.apart; differ = renamed.differ; renamed = same ∙ renamed.renamed } in
     record {
       binders = λ j l e. unknown-before t u more _ (unknown j (omega (arith, l, count)) (subst (λ h. IsSome (scope_end_of (scopes h) j)) tree e));
-      free = free-renamed t m key c (values A) is (λ x h. name-of B A x (subst (λ (n : List (ℕ × ℕ)). In x (values n)) is_m h));
+      free = free-renamed t m key c (values A) is (λ x h. In-values_composite B A x (subst (λ (n : List (ℕ × ℕ)). In x (values n)) is_m h));
     }
 
 -- more names may be given
@@ -102,13 +103,9 @@ fresh-within t vs ws within (bound x inner rest) h = (h.0, fresh-within t vs ws 
 
 -- so what an id hands on may be told by the id
 pub fresh-handed_on : (t : Table) (B A : List (ℕ × ℕ)) (u : Term) → IsFreshTerm t (values (composite B A)) u → IsFreshTerm t (values A) u
-fresh-handed_on t B A u h = fresh-within t (values A) (values (composite B A)) (λ x y. In-among (values A) x (name-of B A x (among-in (values (composite B A)) x y))) u.args h
+fresh-handed_on t B A u h = fresh-within t (values A) (values (composite B A)) (λ x y. In-is_among (values A) x (In-values_composite B A x (is_among-In (values (composite B A)) x y))) u.args h
 
 -- terms over such nodes
-
-has-end : (i : ℕ) (o : Option ℕ) → IsSome o → IsSome (end_at i o)
-has-end i None h = absurd (false≢true h)
-has-end i (Some n) h = refl
 
 none-then : (ks : List ℕ) (s : List (Option ℕ)) (i : ℕ) → get_or (map (λ _. None) ks ++ s) (length ks + i) None ≡ get_or s i None
 none-then [] s i = let e : 0 + i ≡ i = omega arith in ap (λ n. get_or s n None) e
@@ -169,4 +166,4 @@ module _ (t : Table) (vs : List ℕ) where
   pub fresh-term : (f : Form) → Fits f → HasFreshNames t vs f → (us : List Term) → All (IsFreshTerm t vs) us → length us ≡ length (children f.tree) → IsFreshTerm t vs (term_of f us)
   fresh-term f fits is us all c =
       fresh-filled f.tree f.names fits (λ i l. names-new t vs f fits is i l)
-      (λ i l e. is.binders i l (has-end i (get_or (scopes f.tree) i None) e)) us all c
+      (λ i l e. is.binders i l (some_end i (get_or (scopes f.tree) i None) e)) us all c

@@ -5,6 +5,7 @@ use Rattle.std.specs.List.{list_all}
 use Rattle.std.proofs.Math.Dec.{ltb}
 use Rattle.std.proofs.lemmas.Bool.{false≢true, lt-ltb}
 use Rattle.std.proofs.lemmas.List.Elements.{All-from_recursion, recursion_from_All}
+use Rattle.slotted_lists.proofs.Booleans.{and-true}
 use Rattle.slotted_slots.specs.Table.{KnowsMore, Table, is_known, slot_limit, AllKnown}
 use Rattle.slotted_nodes.specs.Form.{Form, IsSmall}
 use Rattle.slotted_patterns.specs.Known.{AreKnown, HasKnownNames, HaveKnownNames}
@@ -14,17 +15,13 @@ use Rattle.slotted_rule_patterns.proofs.FirstInside.{asked-node, asked-row, aske
 use Rattle.slotted_rule_patterns.proofs.Questions.{neither, or-false, twice}
 use Rattle.slotted_graph.specs.KnownPatterns.{is_unknown, knows_node, knows_pattern, know_row, HasSmallNodes, HaveSmallNodes}
 
-both-true : (x y : Bool) → (x && y) ≡ true → (x ≡ true) × (y ≡ true)
-both-true true y e = (refl, e)
-both-true false y e = absurd (false≢true e)
-
 true-both : (x y : Bool) → x ≡ true → y ≡ true → (x && y) ≡ true
 true-both x y e f = ap (λ b. b && y) e ∙ f
 
 -- a list of known names
 each-known : (t : Table) (xs : List ℕ) → list_all (is_known t) xs ≡ true → AreKnown t xs
 each-known t [] e = tt
-each-known t (x ∷ xs) e = let h = both-true (is_known t x) (list_all (is_known t) xs) e in (h.0, each-known t xs h.1)
+each-known t (x ∷ xs) e = let h = and-true (is_known t x) (list_all (is_known t) xs) e in (h.0, each-known t xs h.1)
 
 known-each : (t : Table) (xs : List ℕ) → AreKnown t xs → list_all (is_known t) xs ≡ true
 known-each t [] k = refl
@@ -78,17 +75,17 @@ module _ (t : Table) where
   mutual
     pub knows-known : (p : PatternTree) → knows_pattern t p ≡ true → HasKnownNames t p
     knows-known (enode f row) e =
-        let h = both-true (know_row t row) (knows_node t f) e in
-        (each-known t f.names (both-true (ltb (length f.names) slot_limit) (list_all (is_known t) f.names) h.1).1, know-known row h.0)
+        let h = and-true (know_row t row) (knows_node t f) e in
+        (each-known t f.names (and-true (ltb (length f.names) slot_limit) (list_all (is_known t) f.names) h.1).1, know-known row h.0)
     knows-known (pvar v) e = tt
     knows-known (substitution b x v) e =
-        let h = both-true (knows_pattern t b) (knows_pattern t x && knows_pattern t v) e in
-        let k = both-true (knows_pattern t x) (knows_pattern t v) h.1 in
+        let h = and-true (knows_pattern t b) (knows_pattern t x && knows_pattern t v) e in
+        let k = and-true (knows_pattern t x) (knows_pattern t v) h.1 in
         (knows-known b h.0, knows-known x k.0, knows-known v k.1)
 
     know-known : (row : PatternRow) → know_row t row ≡ true → HaveKnownNames t row
     know-known no_more e = tt
-    know-known (one_more p rest) e = let h = both-true (knows_pattern t p) (know_row t rest) e in (knows-known p h.0, know-known rest h.1)
+    know-known (one_more p rest) e = let h = and-true (knows_pattern t p) (know_row t rest) e in (knows-known p h.0, know-known rest h.1)
 
   mutual
     pub known-knows : (p : PatternTree) → HasKnownNames t p → HasSmallNodes p → knows_pattern t p ≡ true

@@ -41,3 +41,4 @@ pub mod ExtractedTerms
 pub mod LeastTables
 pub mod ChosenNodes
 pub mod EntryForms
+pub mod StatesLater

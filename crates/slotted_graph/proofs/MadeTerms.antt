@@ -2,6 +2,9 @@
 use Rattle.std.proofs.Common.{◌≡◌, ◌∙◌, ap, sym, subst, arith}
 use Rattle.std.specs.Prelude.{ℕ, zero, suc, List, [], ◌∷◌, ◌++◌, length, take, drop, Option, Contains, slice_index}
 use Rattle.std.specs.List.{zip}
+use Rattle.slotted_lists.proofs.Contained.{Contains-nil}
+use Rattle.slotted_lists.proofs.Each.{Each}
+use Rattle.slotted_lists.proofs.Maps.{keys-with_values}
 use Rattle.slotted_theory.specs.FiniteMaps.{filled as put}
 use Rattle.slotted_theory.specs.Nameless.{DArgs, DTerm, extend, nameless, nameless_args, nameless_by}
 use Rattle.slotted_theory.specs.Renaming.{IsInjective}
@@ -9,7 +12,6 @@ use Rattle.slotted_theory.specs.Shape as theory
 use Rattle.slotted_theory.specs.Term.{Term}
 use Rattle.slotted_theory.proofs.Filled.{filled-injective}
 use Rattle.slotted_theory.proofs.Laws.{moved-nameless}
-use Rattle.slotted_theory.proofs.Lists.{Contains-nil}
 use Rattle.slotted_theory.proofs.Names.{extend-injective}
 use Rattle.slotted_theory.proofs.Shapes.{shape-moved}
 use Rattle.slotted_theory.proofs.Values.{node}
@@ -20,7 +22,7 @@ use Rattle.slotted_languages.specs.NodeTerm.{nameless_node, node_args, own_names
 use Rattle.slotted_languages.specs.Shape.{shape}
 use Rattle.slotted_languages.proofs.NodeTerms.{own_fits, child_keys_fit, child_rest_fits, bind_inner_fits, bind_rest_fits}
 use Rattle.slotted_languages.proofs.Shapes.{injective-shape, shape-renamed}
-use Rattle.slotted_model.specs.Applied.{Applied, EachChild, applied_of, keys, renamed_id}
+use Rattle.slotted_model.specs.Applied.{Applied, EachChild, keys, renamed_id}
 use Rattle.slotted_model.specs.Correspondence.{composite}
 use Rattle.slotted_model.specs.Cost.{CostFunction}
 use Rattle.slotted_model.specs.Extraction.{TableEntry, Extracts, by_entry, ExtractsArgs, no_more, own_name, extracted, under_binder}
@@ -28,22 +30,20 @@ use Rattle.slotted_model.specs.Find.{Entry, IsLive, entry_at, find, find_class, 
 use Rattle.slotted_model.specs.ProofList.{node_of}
 use Rattle.slotted_model.specs.Rest.{AtRest}
 use Rattle.slotted_model.specs.State.{Row, State}
-use Rattle.slotted_model.proofs.Finds.Congruence.{child-applied}
 use Rattle.slotted_model.proofs.Rebuilding.Events.{normal-found}
 use Rattle.slotted_model.proofs.LeastTerms.ExtractedParts.{extracted-moved}
-use Rattle.slotted_model.proofs.Data.Maps.{keys-with_values}
 use Rattle.slotted_model.proofs.Finds.NormalIds.{found-class_live, found-full}
 use Rattle.slotted_model.proofs.Rebuilding.RowNodes.{node-valid, row-normal}
 use Rattle.slotted_classes.specs.ChildIds.{ids_in, child_ids}
 use Rattle.slotted_classes.specs.Finding.{HasFinds, IsFindable}
 use Rattle.slotted_classes.specs.Kept.{Kept, entries_of, nodes_of}
-use Rattle.slotted_classes.proofs.ChildIds.{Each, atom-is, length-ids}
+use Rattle.slotted_classes.proofs.ChildIds.{length-ids}
 use Rattle.slotted_classes.proofs.KeptLists.{length-mapped}
 use Rattle.slotted_hashcons.specs.Filed.{HasKey}
 use Rattle.slotted_hashcons.specs.FiledRows.{Rows, row_of_entry}
 use Rattle.slotted_hashcons.proofs.FiledRows.{row-filed}
 use Rattle.slotted_classes.proofs.StoredFinds.{stored-finds}
-use Rattle.slotted_hashcons.proofs.FoundChildren.{each-child, valid-back}
+use Rattle.slotted_hashcons.proofs.FoundChildren.{each-child, valid-back, applied-atom}
 use Rattle.slotted_hashcons.specs.WellFiled.{IsWellFiled, state_in}
 use Rattle.slotted_lookup.specs.Enodes.{IsLookedUpAs, IsMet, names_beside_of}
 use Rattle.slotted_lookup.proofs.EnodeNames.{beside-key, beside-looked_up}
@@ -74,13 +74,6 @@ found-back k good f a h =
     let as_many : length pairs ≡ length a.1 =
     sym (length-mapped (λ (p : ℕ × ℕ). p.0) pairs) ∙ (ap length same ∙ length-mapped (λ (p : ℕ × ℕ). p.0) a.1) in
     (valid, found-itself k good a valid lives as_many)
-
--- the id that a child is under binders that ρ numbers
-applied-child : (ρ : ℕ → ℕ) (i : ℕ) (ks vs : List ℕ) → length vs ≡ length ks →
-    applied_of ((i ∷ ks) ∷ []) (nameless_args ρ (own_names vs)) ≡ renamed_id ρ (i, zip ks vs)
-applied-child ρ i ks vs n =
-    let args : DArgs = nameless_args ρ (own_names vs) in
-    child-applied (λ a. Unit {0}) 0 ((i ∷ ks) ∷ []) args (renamed_id ρ (i, zip ks vs), atom-is ρ i ks vs n, tt)
 
 module _ {L C : Type 0} (form : L → Form) (k : Kept) (r : Rows) (well : IsWellFiled k r) (quiet : r.waiting ≡ []) (rest : AtRest (state_in k r))
     (costs : CostFunction C) (es : List (Option (TermEntry L C))) (least : AreLeast form k r costs es) where
@@ -122,7 +115,7 @@ module _ {L C : Type 0} (form : L → Form) (k : Kept) (r : Rows) (well : IsWell
       subst (Extracts g table (renamed_id ρ a)) (moved-nameless ρ u)
       (extracted-moved g costs table rest least.fits.in_order ρ inj m.0) in
       extracted {op = 0} {payloads = (i ∷ ks) ∷ []} {args = nameless_args ρ (own_names vs)} {t = t}
-      (subst (λ b. Extracts g table b t) (sym (applied-child ρ i ks vs (child_keys_fit i ks s xs n))) renamed)
+      (subst (λ b. Extracts g table b t) (sym (applied-atom ρ i ks vs (child_keys_fit i ks s xs n))) renamed)
       (extracts-args ρ inj s (drop (length ks) xs) us (child_rest_fits i ks s xs n) m.1)
   extracts-args ρ inj (bind u s) xs us n m =
       let w : ℕ = length (scopes u) in

@@ -2,6 +2,7 @@
 use Rattle.std.proofs.Common.{◌≡◌, ◌∙◌, ◌<◌, ℕ, List, Some, length, ap, sym, subst, arith}
 use Rattle.std.specs.Prelude.{◌↔◌, Contains}
 use Rattle.std.specs.Map.{values_of}
+use Rattle.slotted_lists.proofs.Members.{In-Contains, Contains-In}
 use Rattle.slotted_model.specs.Applied.{Applied, renamed_id}
 use Rattle.slotted_theory.specs.Renaming.{Bijection}
 use Rattle.slotted_theory.specs.Shape.{free_names}
@@ -13,7 +14,6 @@ use Rattle.slotted_model.specs.Rest.{AtRest, IsValidIn}
 use Rattle.slotted_model.specs.State.{Row, State}
 use Rattle.slotted_model.proofs.Finds.Finding.{find_class-live, found-live, leads}
 use Rattle.slotted_model.proofs.Rebuilding.Lacking.{same-ascending}
-use Rattle.slotted_model.proofs.Data.Members.{In-Contains, Contains-In}
 use Rattle.slotted_model.proofs.Finds.NormalIds.{Contains-ascending, Contains-of_ascending}
 use Rattle.slotted_model_rules.specs.Complete as model
 use Rattle.slotted_model_rules.specs.Conditions.{Values}

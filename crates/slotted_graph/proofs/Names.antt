@@ -1,8 +1,8 @@
 -- Names of an id that are handed on, nodes whose binders are refreshed, and the slots that both take.
-use Rattle.std.proofs.Common.{◌≡◌, ◌<◌, ◌≤◌, ◌+◌, ◌*◌, ◌∙◌, ℕ, List, [], ◌++◌, length, ap, refl, sym, inl, inr, arith}
+use Rattle.std.proofs.Common.{◌≡◌, ◌<◌, ◌≤◌, ◌+◌, ◌*◌, ◌∙◌, ℕ, List, [], ◌++◌, length, ap, sym, inl, inr, arith}
 use Rattle.std.specs.Prelude.{IsTrue}
 use Rattle.std.proofs.lemmas.List.Elements.{All-append, All-nil}
-use Rattle.slotted_theory.specs.Nameless.{DArgs, DTerm, lift, moved_args, place, scope, stop, sub}
+use Rattle.slotted_theory.specs.Nameless.{DTerm}
 use Rattle.slotted_slots.specs.Table.{KnowsMore, Table, is_known, slot_limit}
 use Rattle.slotted_nodes.specs.Form.{Form}
 use Rattle.slotted_languages.specs.Children.{binders}
@@ -13,32 +13,26 @@ use Rattle.slotted_languages.specs.Shape.{Fits}
 use Rattle.slotted_languages.proofs.Counting.{binders_fit}
 use Rattle.slotted_model.specs.Applied.{values}
 use Rattle.slotted_model.specs.Correspondence.{composite}
+use Rattle.slotted_model.proofs.Correspondences.Pairs.{In-values_composite}
 use Rattle.slotted_classes.proofs.NameMaps.{In-at, at_In}
 use Rattle.slotted_lookup.specs.Enodes.{AllKnownTo}
-use Rattle.slotted_reports.proofs.FiledNodes.{name-of}
 use Rattle.slotted_reports.proofs.FreshNodes.{lacked-beside, made-beside, runs_out-more}
 use Rattle.slotted_operations.specs.Canonical.{args_count}
 use Rattle.slotted_operations.proofs.Ids.CanonicalTerms.{places-counted}
+use Rattle.slotted_operations.proofs.Ids.NodesOfIds.{args_count-moved}
 use Rattle.slotted_graph.specs.Frames.{RunsOutForKey}
 
 -- a map to names of an id has names that are known
 pub composite-known : (t : Table) (B A : List (ℕ × ℕ)) → AllKnownTo t (values A) → AllKnownTo t (values (composite B A))
-composite-known t B A known j d l = at_In (λ x. IsTrue (is_known t x)) (values A) known _ (name-of B A _ (In-at (values (composite B A)) j d l))
+composite-known t B A known j d l = at_In (λ x. IsTrue (is_known t x)) (values A) known _ (In-values_composite B A _ (In-at (values (composite B A)) j d l))
 
 -- other binders
 pub renamed-refreshed : (t : Table) (m : List (ℕ × ℕ)) (f b c : Form) → IsRenamedFresh t m f b → nameless_node c ≡ nameless_node b → IsRenamedFresh t m f c
 renamed-refreshed t m f b c is same = record { by = is.by; known = is.known; unused = is.unused; apart = is.apart; differ = is.differ; renamed = same ∙ is.renamed }
 
--- other names, as many places
-pub count-moved : (ρ : ℕ → ℕ) (d : DArgs) → args_count (moved_args ρ d) ≡ args_count d
-count-moved ρ stop = refl
-count-moved ρ (place x rest) = λ i. 1 + count-moved ρ rest i
-count-moved ρ (sub op payloads args rest) = λ i. count-moved ρ args i + count-moved ρ rest i
-count-moved ρ (scope inner rest) = λ i. 1 + count-moved (lift ρ) inner i + count-moved ρ rest i
-
 pub renamed-places : (t : Table) (m : List (ℕ × ℕ)) (f g : Form) → Fits f → Fits g → IsRenamedFresh t m f g → length g.names ≡ length f.names
 renamed-places t m f g fits_f fits_g is =
-    sym (places-counted g fits_g) ∙ (ap (λ (d : DTerm). args_count d.args) is.renamed ∙ (count-moved is.by (nameless_node f).args ∙ places-counted f fits_f))
+    sym (places-counted g fits_g) ∙ (ap (λ (d : DTerm). args_count d.args) is.renamed ∙ (args_count-moved is.by (nameless_node f).args ∙ places-counted f fits_f))
 
 -- a key that is renamed by m
 module _ (t u : Table) (m : List (ℕ × ℕ)) (key b : Form) (own : AllKnownTo t key.names) (handed : AllKnownTo t (values m)) (more : KnowsMore t u) where

@@ -4,9 +4,11 @@ use Rattle.std.specs.Prelude.{◌≢◌, All, set, slice_get, unwrap_or}
 use Rattle.std.proofs.lemmas.Bool.{cases_eq}
 use Rattle.std.proofs.lemmas.List.{length-set, length_push, take_all}
 use Rattle.std.proofs.lemmas.Option.{get_or_from_slice_get, slice_get_within, unwrap_or-slice_get}
-use Rattle.slotted_model.proofs.Data.Options.{None-Some, Some-same}
+use Rattle.slotted_lists.proofs.Options.{Some-same}
+use Rattle.slotted_lists.proofs.Lists.{slice_get-append_end}
+use Rattle.slotted_model.proofs.Data.Options.{None-Some}
 use Rattle.slotted_classes.specs.Kept.{Kept}
-use Rattle.slotted_hashcons.proofs.Places.{at-append_end, at-set_other, at-set_same, at-take}
+use Rattle.slotted_hashcons.proofs.Places.{at-set_other, at-set_same, at-take}
 use Rattle.slotted_costs.specs.declared.entry.CostEntry.{CostEntry}
 use Rattle.slotted_graph.specs.declared.entry.TermEntry.{TermEntry}
 use Rattle.slotted_graph.specs.Terms.{entry_at}
@@ -36,7 +38,7 @@ module _ {L C : Type 0} (k : Kept) (es : List (CostEntry L C)) where
   pub popped-at : (left rest : List (CostEntry L C)) (e : CostEntry L C) → left ≡ take (length left) es → left ≡ rest ++ e ∷ [] → slice_get es (length rest) ≡ Some e
   popped-at left rest e first popped =
       let n : length left ≡ length rest + 1 = ap length popped ∙ length_push rest e in
-      sym (at-take (length left) es (length rest) (omega (arith, n))) ∙ (ap (λ l. slice_get l (length rest)) (sym first ∙ popped) ∙ at-append_end rest e)
+      sym (at-take (length left) es (length rest) (omega (arith, n))) ∙ (ap (λ l. slice_get l (length rest)) (sym first ∙ popped) ∙ slice_get-append_end rest e)
 
   first-ones : (xs ys : List (CostEntry L C)) (e : CostEntry L C) (n : ℕ) → xs ++ e ∷ [] ≡ take n ys → xs ≡ take (length xs) ys
   first-ones [] ys e n h = refl

@@ -1,6 +1,7 @@
 -- A node of a row's shape that is looked up as what an id of the row's class finds is the row's node.
 use Rattle.std.proofs.Common.{◌≡◌, ℕ, Some, sym, ◌∙◌, ap}
 use Rattle.std.specs.Prelude.{Contains, option_map}
+use Rattle.slotted_lists.proofs.Options.{Some-same}
 use Rattle.slotted_theory.specs.Nameless.{DTerm, moved}
 use Rattle.slotted_theory.specs.FiniteMaps.{filled}
 use Rattle.slotted_theory.specs.Renaming.{IsInjective}
@@ -16,7 +17,6 @@ use Rattle.slotted_model.specs.Rest.{IsValidIn, IsRow, AtRest}
 use Rattle.slotted_model.specs.State.{Row, State, filed_node, look_up_node}
 use Rattle.slotted_model.proofs.Represented.Full.{full-renamed}
 use Rattle.slotted_model.proofs.Finds.NormalIds.{found-renamed}
-use Rattle.slotted_model.proofs.Data.Options.{Some-same}
 use Rattle.slotted_model.proofs.Represented.RenamedIds.{normal-renamed}
 use Rattle.slotted_model.proofs.Rebuilding.RowNodes.{row_node, row-normal, row-looked_up, row-id}
 use Rattle.slotted_model.proofs.Rebuilding.Rows.{look_up_node-moved}

@@ -5,6 +5,7 @@ use Rattle.std.specs.Coded.{Coded}
 use Rattle.std.proofs.lemmas.Bool.{false≢true}
 use Rattle.std.proofs.lemmas.List.{append-nil, get_or_append_left}
 use Rattle.std.proofs.lemmas.List.Elements.{Contains-append_cases, Contains-push_cases}
+use Rattle.slotted_lists.proofs.Contained.{Contains-nil}
 use Rattle.slotted_slots.specs.declared.types.AppliedId.{AppliedId}
 use Rattle.slotted_slots.specs.declared.error.Error.{Error}
 use Rattle.slotted_slots.specs.declared.error.Error.TheVariants.{Failed}
@@ -12,10 +13,8 @@ use Rattle.slotted_slots.specs.Error.{IsShortage}
 use Rattle.slotted_slots.specs.Table.{Table, KnowsMore}
 use Rattle.slotted_theory.specs.Term.{Term}
 use Rattle.slotted_theory.specs.Nameless.{DTerm, nameless}
-use Rattle.slotted_theory.proofs.Lists.{Contains-nil}
 use Rattle.slotted_model.specs.Applied.{Applied}
 use Rattle.slotted_model.specs.Classes.{term_of}
-use Rattle.slotted_model.specs.Filling.{IsValid}
 use Rattle.slotted_model.specs.Growth.{Extends}
 use Rattle.slotted_model.specs.ProofList.{Equation, equation_of, term_pair}
 use Rattle.slotted_model.proofs.Represented.FillingEquations.{filled-equation}
@@ -23,7 +22,7 @@ use Rattle.slotted_proofs.specs.Entries.{Proven, nothing_proven, proven_at}
 use Rattle.slotted_proofs.specs.Equations.{to_applied}
 use Rattle.slotted_rebuilding.specs.Counted.{CountsGo}
 use Rattle.slotted_rebuilding.proofs.RebuildCounts.{counts-same, counts-then}
-use Rattle.slotted_operations.proofs.CallerLemmas.{term_later}
+use Rattle.slotted_operations.proofs.CallerLemmas.{term_later, valid-over_none}
 use Rattle.slotted_analyses.specs.Meaning.{IsMergeOf, Meaning, by_bare_nodes}
 use Rattle.slotted_analyses.specs.declared.edit.Edit.{Edit}
 use Rattle.slotted_analyses.specs.declared.edit.Edit.TheVariants.{Add, Equal, Equate}
@@ -169,9 +168,6 @@ adds-term codes meaning g h t a is extends adds more full term carries = record 
   carries = carries;
 }
 
-valid-none : (g : Graph) (a : Applied) → IsValidId g a → IsValid (λ c. []) g.image.canonical a
-valid-none g a v = record { in_range = v.in_range; ascending = v.ascending; injective = v.injective; has_slots = λ s c. absurd (Contains-nil s c); within = v.within }
-
 -- two ids were united
 pub unites-ids : {N D : Type 0} (codes : Coded N × Coded D) (meaning : N → Meaning D) (g h : Graph) (a b : AppliedId) (y : Bool) → IsGraph h → IsValidId g (to_applied a) → IsValidId g (to_applied b) →
     IsUnion g.image h.image (to_applied a) (to_applied b) y → RecordsUnion g h a b None → h.table ≡ g.table → CarriesData codes meaning g h → UnitesIds codes meaning g h (to_applied a) (to_applied b)
@@ -182,7 +178,7 @@ unites-ids codes meaning g h a b y is va vb u recorded table carries =
     let asserts = u.asserts left right apart in
     let records = recorded.each left right apart in
     let own : equation_of left right ≡ equation_of (to_applied a) (to_applied b) =
-    filled-equation g.image.canonical (λ c. []) (λ c. []) (to_applied a) (to_applied b) left right (valid-none g (to_applied a) va) (valid-none g (to_applied b) vb) apart.left_fills apart.right_fills in
+    filled-equation g.image.canonical (λ c. []) (λ c. []) (to_applied a) (to_applied b) left right (valid-over_none g (to_applied a) va) (valid-over_none g (to_applied b) vb) apart.left_fills apart.right_fills in
     record {
       graph = is;
       extends = extends-united g h a b None y u recorded table;

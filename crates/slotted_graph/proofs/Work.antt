@@ -4,15 +4,16 @@ use Rattle.std.specs.Prelude.{Contains, IsTrue}
 use Rattle.std.proofs.lemmas.Bool.{false≢true, ltb-true}
 use Rattle.std.specs.List.{sum_by}
 use Rattle.std.proofs.lemmas.List.Sums.{sum_by-cons, sum_by-drop_more}
-use Rattle.slotted_theory.proofs.Lists.{contains_head, contains_tail}
+use Rattle.slotted_lists.proofs.Contained.{contains_head, contains_tail}
 use Rattle.slotted_nodes.specs.Form.{Form, children}
 use Rattle.slotted_model.specs.Applied.{Applied}
 use Rattle.slotted_hashcons.specs.FiledRows.{key_children}
+use Rattle.slotted_data.proofs.NewData.{children-count}
 use Rattle.slotted_graph.specs.declared.entry.TermEntry.{TermEntry}
 use Rattle.slotted_graph.specs.declared.extracting.Frame.{Frame}
 use Rattle.slotted_graph.specs.Terms.{IsOrdered, class_sum, entry_at, entry_sum, is_below, rank_in, slots_at, slots_for, slots_of, sum_for}
 use Rattle.slotted_graph.specs.Frames.{IsFrameFor, made_count, next_child, rest_from, steps_of, waiting_rest, waiting_work, work_for, work_from}
-use Rattle.slotted_graph.proofs.ChildClasses.{child-contained, children-renamed, class-of_child, length-key_children}
+use Rattle.slotted_graph.proofs.ChildClasses.{child-contained, children-renamed, class-of_child}
 
 -- sums of what is the same at each element
 sums-same : (f g : ℕ → ℕ) (xs : List ℕ) → ((x : ℕ) → Contains xs x → f x ≡ g x) → sum_by f xs ≡ sum_by g xs
@@ -83,7 +84,7 @@ module _ {L C : Type 0} (form : L → Form) (es : List (Option (TermEntry L C)))
       let k : ℕ = made_count f in
       let cs : List ℕ = key_children (form f.node) in
       let sum : ℕ → ℕ = sum_for form weight es in
-      let within : k < length cs = omega (arith, lt, length-key_children (form f.node)) in
+      let within : k < length cs = omega (arith, lt, children-count (form f.node)) in
       let class : sum (get_or cs k 0) ≡ sum (next_child form f).0 = ap sum (class-of_child (form f.node) k (0, []) lt) in
       let next : sum_by sum (drop (k + 1) cs) ≡ sum_by sum (drop (suc k) cs) =
       let e : k + 1 ≡ suc k = omega arith in ap (λ n. sum_by sum (drop n cs)) e in

@@ -1,6 +1,7 @@
 -- The slots that a class uses, looked for among those of its node in normal form.
 use Rattle.std.proofs.Common.{◌≡◌, ◌<◌, ℕ, List, [], ◌∷◌, Some, None, length, sym, ap, refl, subst}
 use Rattle.std.specs.Prelude.{◌↔◌, Bool, Contains, IsTrue, is_some, slice_index_or}
+use Rattle.slotted_lists.proofs.Members.{In-Contains}
 use Rattle.slotted_theory.specs.FiniteMaps.{value_of}
 use Rattle.slotted_slots.specs.Maps as slots
 use Rattle.slotted_model.specs.Applied.{keys, values}
@@ -8,11 +9,10 @@ use Rattle.slotted_model.specs.Correspondence.{flipped}
 use Rattle.slotted_model.specs.Find.{find_class, find_map}
 use Rattle.slotted_model.specs.Rebuild.{IsCovered}
 use Rattle.slotted_model.proofs.Correspondences.Pairs.{Contains-value_of}
-use Rattle.slotted_model.proofs.Data.Members.{In-Contains}
+use Rattle.slotted_languages.proofs.Counting.{In-value}
 use Rattle.slotted_classes.specs.Finding.{HasFinds, HasFoundName, HasFoundNames}
 use Rattle.slotted_classes.specs.Kept.{Kept, entries_of, find_at}
 use Rattle.slotted_classes.proofs.Chasing.{has-name, no-name, each-name, all-names}
-use Rattle.slotted_classes.proofs.NameMaps.{In-key}
 use Rattle.slotted_hashcons.specs.FoundNodes.{HasNormalNames, StandsIn, finds_of}
 
 -- the values of a map are the keys of its pairs turned round
@@ -31,7 +31,7 @@ module _ (k : Kept) (good : HasFinds k) (i : ℕ) (within : i < length k.classes
   pub stands-some : (t s : ℕ) → Some s ≡ value_of (find_map (entries_of k) i) t → (y : Bool) → (IsTrue y ↔ Contains (values m) s) → IsTrue y ↔ StandsIn k i m t
   stands-some t s e y is =
       let h = has-name k good (i, flipped m) within t s e (is_some (slots.value_of (flipped m) s)) refl in (
-        λ b. (named t).0 (h.0 (In-key (flipped m) s (In-Contains (keys (flipped m)) s (subst (λ xs. Contains xs s) (sym (keys-flipped m)) (is.0 b))))),
+        λ b. (named t).0 (h.0 (In-value (flipped m) s (In-Contains (keys (flipped m)) s (subst (λ xs. Contains xs s) (sym (keys-flipped m)) (is.0 b))))),
         λ n. is.1 (n s (Contains-value_of (find_map (entries_of k) i) t s (sym e))),
       )
 

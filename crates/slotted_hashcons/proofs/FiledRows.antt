@@ -5,19 +5,20 @@ use Rattle.std.proofs.lemmas.Bool.{eq-eqb, ne_eqb}
 use Rattle.std.proofs.lemmas.List.{map-append, append-nil, append_assoc}
 use Rattle.std.proofs.lemmas.List.Elements.{filter-append, Contains-append_left, Contains-append_right, Contains-append_cases}
 use Rattle.std.proofs.Math.Seq.{set-append_seam}
+use Rattle.slotted_lists.proofs.Contained.{contains_head, contains_cases, Contains-nil, Contains-map, Contains-of_map}
 use Rattle.slotted_theory.specs.Nameless.{DTerm}
 use Rattle.slotted_theory.specs.Shape as theory
-use Rattle.slotted_theory.proofs.Lists.{contains_head, contains_tail, contains_cases, Contains-nil, Contains-map, Contains-of_map}
 use Rattle.slotted_nodes.specs.Form.{Form}
 use Rattle.slotted_languages.specs.NodeTerm.{nameless_node}
 use Rattle.slotted_model.specs.Correspondence.{AllDifferent}
 use Rattle.slotted_model.specs.State.{Row, child_classes, sources}
 use Rattle.slotted_model.specs.Rebuild.{without, without_row, with_row}
 use Rattle.slotted_model.proofs.Complete.Marks.{child_classes-moved}
+use Rattle.slotted_model.proofs.Rebuilding.QuietTurns.{none-without}
+use Rattle.slotted_model.proofs.Rebuilding.Touching.{different-added}
 use Rattle.slotted_classes.specs.Kept.{RowEntry}
 use Rattle.slotted_hashcons.specs.Filed.{Filing, filed_of}
 use Rattle.slotted_hashcons.specs.FiledRows.{row_of_entry, row_at, rows_from, rows_in, key_children, IsFiled}
-use Rattle.slotted_hashcons.proofs.Flags.{different-added}
 
 -- the shape of a node has its child classes
 pub child_classes-shape : (d : DTerm) → child_classes (theory.shape d).args ≡ child_classes d.args
@@ -28,7 +29,7 @@ pub row-children : (e : RowEntry) → child_classes (row_of_entry e).shape.args 
 row-children e = child_classes-shape (nameless_node e.0)
 
 -- one class more, at the end
-rows_from-append : (i : ℕ) (v : List (Option Filing)) (x : Option Filing) → rows_from i (v ++ x ∷ []) ≡ row_at (i + length v) x ++ rows_from i v
+pub rows_from-append : (i : ℕ) (v : List (Option Filing)) (x : Option Filing) → rows_from i (v ++ x ∷ []) ≡ row_at (i + length v) x ++ rows_from i v
 rows_from-append i [] x =
     let e : i ≡ i + 0 = omega arith in
     ap (λ n. row_at n x) e ∙ sym (append-nil (row_at (i + 0) x))
@@ -118,19 +119,12 @@ sources-different_from j (x ∷ v) =
 pub sources-different : (v : List (Option Filing)) → AllDifferent (sources (rows_in v))
 sources-different v = sources-different_from 0 v
 
--- a number that is nowhere in a list
-without-absent : (o : ℕ) (xs : List ℕ) → ¬ Contains xs o → without o xs ≡ xs
-without-absent o [] n = refl
-without-absent o (x ∷ xs) n =
-    let d : x ≢ o = λ e. n (subst (Contains (x ∷ xs)) e (contains_head x xs)) in
-    ap (λ b. cond (not b) (x ∷ without o xs) (without o xs)) (ne_eqb x o d) ∙ ap (λ l. x ∷ l) (without-absent o xs (λ c. n (contains_tail x xs o c)))
-
 -- the first of different numbers is taken out
 pub without-front : (o : ℕ) (waiting rest : List ℕ) → waiting ≡ o ∷ rest → AllDifferent waiting → without o waiting ≡ rest
 without-front o waiting rest e d =
     ap (without o) e
     ∙ ap (λ b. cond (not b) (o ∷ without o rest) (without o rest)) (eq-eqb o o refl)
-    ∙ without-absent o rest (subst AllDifferent e d).0
+    ∙ none-without o rest (subst AllDifferent e d).0
 
 -- the rows of other classes stay as a row is taken out
 without_row-other : (o i : ℕ) (x : Option Filing) → i ≢ o → without_row o (row_at i x) ≡ row_at i x

@@ -4,8 +4,8 @@ use Rattle.std.specs.Prelude.{Contains, IsTrue, ◌↔◌, slice_index_or, set}
 use Rattle.std.proofs.lemmas.Bool.{cases_eq, false≢true}
 use Rattle.std.proofs.lemmas.List.{get_or-set_same, get_or-set_other}
 use Rattle.std.proofs.lemmas.List.Elements.{Contains-append_left, Contains-append_right, Contains-append_cases}
-use Rattle.slotted_theory.proofs.Lists.{contains_head, contains_tail, contains_cases, Contains-nil}
-use Rattle.slotted_model.specs.Correspondence.{AllDifferent}
+use Rattle.slotted_lists.proofs.Contained.{contains_head, contains_tail, contains_cases, Contains-nil}
+use Rattle.slotted_model.proofs.Rebuilding.Touching.{different-added}
 use Rattle.slotted_hashcons.specs.Waiting.{HasFlags}
 
 -- a flag that is up is one of the list
@@ -30,20 +30,6 @@ flags-added flags q h = record {
   once = h.once;
   tells = λ i. (λ t. (h.tells i).0 (subst IsTrue (flag-added flags i) t), λ c. subst IsTrue (sym (flag-added flags i)) ((h.tells i).1 c));
 }
-
--- a number at the end of a list that has it nowhere
-pub different-added : (q : List ℕ) (i : ℕ) → AllDifferent q → ¬ Contains q i → AllDifferent (q ++ i ∷ [])
-different-added [] i d n = (Contains-nil i, tt)
-different-added (x ∷ q) i d n = (
-  λ c. elim (Contains-append_cases q (i ∷ []) x c) [
-    | inl k ↦ d.0 k
-    | inr k ↦ elim (contains_cases i [] x k) [
-      | inl e ↦ n (subst (Contains (x ∷ q)) e (contains_head x q))
-      | inr m ↦ Contains-nil x m
-    ]
-  ],
-  different-added q i d.1 (λ c. n (contains_tail x q i c)),
-)
 
 -- its flag goes up
 pub flags-pushed : (flags : List Bool) (q : List ℕ) (i : ℕ) → HasFlags flags q → i < length flags → ¬ Contains q i → HasFlags (set flags i true) (q ++ i ∷ [])

@@ -2,9 +2,11 @@
 use Rattle.std.proofs.Common.{◌≡◌, ℕ, suc, zero, ◌-◌, ◌<◌, ◌≤◌, List, [], ◌∷◌, ◌++◌, length, take, drop, refl, slice_index, ap, ◌∙◌, sym, subst, arith, length-append, length-drop, length-take, inl, inr}
 use Rattle.std.specs.Prelude.{Contains, slice_index_or}
 use Rattle.std.specs.List.{zip}
-use Rattle.std.proofs.lemmas.List.{length-map, take_at, drop_at}
+use Rattle.std.proofs.lemmas.List.{take_at, drop_at}
+use Rattle.slotted_lists.proofs.Members.{In, In-append, In-map, In-of_map, In-Contains, Contains-In, In-take, In-drop}
+use Rattle.slotted_lists.proofs.Each.{Each, Each-append}
+use Rattle.slotted_lists.proofs.Maps.{IsInjectiveMap-before, zip-keys_values, length-values, length-keys, In-zip, keys-with_values}
 use Rattle.slotted_theory.specs.Nameless.{DTerm, place, sub, scope, extend, nameless_args}
-use Rattle.slotted_theory.specs.FiniteMaps.{with_values, HasValue, IsInjectiveMap}
 use Rattle.slotted_theory.proofs.Values.{node, child_before}
 use Rattle.slotted_slots.specs.Maps.{keys, values}
 use Rattle.slotted_nodes.specs.Form.{Form, Tree, leaf, own, child, bind, scopes, children}
@@ -19,26 +21,18 @@ use Rattle.slotted_model.specs.Normal.{normal, normal_args}
 use Rattle.slotted_model.proofs.Represented.Children.{zip-places}
 use Rattle.slotted_model.proofs.Finds.Congruence.{child-applied}
 use Rattle.slotted_model.proofs.Correspondences.Listing.{injective-different}
-use Rattle.slotted_model.proofs.Data.Maps.{keys-with_values}
-use Rattle.slotted_model.proofs.Data.Members.{In, In-append, In-map, In-of_map, In-Contains, Contains-In}
 use Rattle.slotted_model.proofs.Finds.NormalIds.{found-renamed, found-valid, found-name}
 use Rattle.slotted_model.proofs.Rebuilding.Touching.{different-length}
 use Rattle.slotted_classes.specs.ChildIds.{ids_in, child_ids}
 use Rattle.slotted_hashcons.specs.NormalNodes.{HasNoOtherNames}
-use Rattle.slotted_classes.proofs.ChildIds.{Each, Each-append, atom-is, zip-keys_values}
+use Rattle.slotted_classes.proofs.ChildIds.{atom-is}
 use Rattle.slotted_hashcons.proofs.ReplacedChildren.{first_tree, first_names, first_form, first_names-fit}
 
 -- the id that a child is under binders that ρ numbers
-applied-atom : (ρ : ℕ → ℕ) (i : ℕ) (ks vs : List ℕ) → length vs ≡ length ks → applied_of ((i ∷ ks) ∷ []) (nameless_args ρ (own_names vs)) ≡ renamed_id ρ (i, zip ks vs)
+pub applied-atom : (ρ : ℕ → ℕ) (i : ℕ) (ks vs : List ℕ) → length vs ≡ length ks → applied_of ((i ∷ ks) ∷ []) (nameless_args ρ (own_names vs)) ≡ renamed_id ρ (i, zip ks vs)
 applied-atom ρ i ks vs n =
     let a : Applied = renamed_id ρ (i, zip ks vs) in
     ap (λ (d : DTerm). applied_of d.payloads d.args) (atom-is ρ i ks vs n) ∙ ap (λ m. let b : Applied = (i, m) in b) (zip-places a.1)
-
-length-values : (m : List (ℕ × ℕ)) → length (values m) ≡ length m
-length-values m = length-map {B = ℕ} m (λ p. p.1)
-
-length-keys : (m : List (ℕ × ℕ)) → length (keys m) ≡ length m
-length-keys m = length-map {B = ℕ} m (λ p. p.0)
 
 -- a child that is replaced by what it finds
 found-child : (found : List Entry) (ρ : ℕ → ℕ) (i : ℕ) (ks vs : List ℕ) → length vs ≡ length ks → let b : Applied = find found (i, zip ks vs) in
@@ -103,15 +97,6 @@ Each-at P [] k d h l = absurd (omega arith)
 Each-at P (p ∷ ps) zero d h l = h.0
 Each-at P (p ∷ ps) (suc k) d h l = Each-at P ps k d h.1 (omega arith)
 
-HasValue-moved : (f : ℕ → ℕ) (m : List (ℕ × ℕ)) (x : ℕ) → HasValue m x → HasValue (with_values f m) (f x)
-HasValue-moved f [] x h = h
-HasValue-moved f (p ∷ m) x (inl e) = inl (ap f e)
-HasValue-moved f (p ∷ m) x (inr h) = inr (HasValue-moved f m x h)
-
-injective-back : (f : ℕ → ℕ) (m : List (ℕ × ℕ)) → IsInjectiveMap (with_values f m) → IsInjectiveMap m
-injective-back f [] h = tt
-injective-back f (p ∷ m) h = (λ v. h.0 (HasValue-moved f m p.1 v), injective-back f m h.1)
-
 -- an id is valid if it is with other names
 pub valid-back : (slots : ℕ → List ℕ) (nodes : List DTerm) (f : ℕ → ℕ) (a : Applied) → IsValid slots nodes (renamed_id f a) → IsValid slots nodes a
 valid-back slots nodes f a v =
@@ -119,7 +104,7 @@ valid-back slots nodes f a v =
     record {
       in_range = v.in_range;
       ascending = subst IsAscending k v.ascending;
-      injective = injective-back f a.1 v.injective;
+      injective = IsInjectiveMap-before f a.1 v.injective;
       has_slots = λ s c. subst (λ K. Contains K s) k (v.has_slots s c);
       within = λ s c. v.within s (subst (λ K. Contains K s) (sym k) c);
     }
@@ -145,23 +130,6 @@ fewer-names nodes found linked a v =
     (λ x c. Contains-In (values a.1) x (found-names found a x (In-Contains (values b.1) x c))) in
     omega (arith, w, length-values b.1, length-values a.1)
 
-In-zip : (ks vs : List ℕ) (x : ℕ) → In x (values (zip ks vs)) → In x vs
-In-zip [] vs x h = absurd h
-In-zip (k ∷ ks) [] x h = absurd h
-In-zip (k ∷ ks) (v ∷ vs) x (inl e) = inl e
-In-zip (k ∷ ks) (v ∷ vs) x (inr h) = inr (In-zip ks vs x h)
-
-In-taken : (n : ℕ) (xs : List ℕ) (x : ℕ) → In x (take n xs) → In x xs
-In-taken zero xs x h = absurd h
-In-taken (suc n) [] x h = absurd h
-In-taken (suc n) (y ∷ ys) x (inl e) = inl e
-In-taken (suc n) (y ∷ ys) x (inr h) = inr (In-taken n ys x h)
-
-In-dropped : (n : ℕ) (xs : List ℕ) (x : ℕ) → In x (drop n xs) → In x xs
-In-dropped zero xs x h = h
-In-dropped (suc n) [] x h = absurd h
-In-dropped (suc n) (y ∷ ys) x h = inr (In-dropped n ys x h)
-
 -- the first name stands in the list
 In-first : (xs : List ℕ) (n x : ℕ) → length xs ≡ suc n → x ≡ slice_index xs 0 → In x xs
 In-first [] n x h e = absurd (omega arith)
@@ -171,21 +139,21 @@ In-first (y ∷ ys) n x h e = inl e
 In-first_names : (found : List Entry) (t : Tree) (k : ℕ) (xs : List ℕ) → length xs ≡ length (scopes t) → (x : ℕ) → In x (first_names (find found) t k xs) → In x xs
 In-first_names found leaf k xs n x h = h
 In-first_names found (own r) k xs n x (inl e) = In-first xs (length (scopes r)) x n e
-In-first_names found (own r) k xs n x (inr h) = In-dropped 1 xs x (In-first_names found r k (drop 1 xs) (own_fits r xs n) x h)
+In-first_names found (own r) k xs n x (inr h) = In-drop 1 xs x (In-first_names found r k (drop 1 xs) (own_fits r xs n) x h)
 In-first_names found (child i ks r) zero xs n x h = h
 In-first_names found (child i ks r) (suc k) xs n x h =
     let vs = take (length ks) xs in
     let a : Applied = (i, zip ks vs) in
     elim (In-append x (values (find found a).1) (first_names (find found) r k (drop (length ks) xs)) h) [
-      | inl g ↦ In-taken (length ks) xs x (In-zip ks vs x (found-names found a x g))
-      | inr g ↦ In-dropped (length ks) xs x (In-first_names found r k (drop (length ks) xs) (child_rest_fits i ks r xs n) x g)
+      | inl g ↦ In-take (length ks) xs x (In-zip ks vs x (found-names found a x g))
+      | inr g ↦ In-drop (length ks) xs x (In-first_names found r k (drop (length ks) xs) (child_rest_fits i ks r xs n) x g)
     ]
 In-first_names found (bind u r) k xs n x (inl e) = In-first xs (length (scopes u ++ scopes r)) x n e
 In-first_names found (bind u r) k xs n x (inr h) =
     let m = length (scopes u) in
     elim (In-append x (first_names (find found) u k (take m (drop 1 xs))) (first_names (find found) r (k - length (children u)) (drop m (drop 1 xs))) h) [
-      | inl g ↦ In-dropped 1 xs x (In-taken m (drop 1 xs) x (In-first_names found u k (take m (drop 1 xs)) (bind_inner_fits u r xs n) x g))
-      | inr g ↦ In-dropped 1 xs x (In-dropped m (drop 1 xs) x (In-first_names found r (k - length (children u)) (drop m (drop 1 xs)) (bind_rest_fits u r xs n) x g))
+      | inl g ↦ In-drop 1 xs x (In-take m (drop 1 xs) x (In-first_names found u k (take m (drop 1 xs)) (bind_inner_fits u r xs n) x g))
+      | inr g ↦ In-drop 1 xs x (In-drop m (drop 1 xs) x (In-first_names found r (k - length (children u)) (drop m (drop 1 xs)) (bind_rest_fits u r xs n) x g))
     ]
 
 pub found-no_other : (found : List Entry) (f : Form) (k : ℕ) → Fits f → HasNoOtherNames f (first_form (find found) f k)

@@ -1,6 +1,7 @@
 -- Ids that are what they find.
 use Rattle.std.proofs.Common.{◌≡◌, ◌∙◌, ℕ, List, length, ap, sym, subst}
 use Rattle.std.specs.Map.{keys_of, values_of}
+use Rattle.slotted_lists.proofs.Members.{Contains-In, In, In-Contains}
 use Rattle.slotted_theory.specs.Nameless.{DTerm}
 use Rattle.slotted_model.specs.Applied.{Applied, keys, values}
 use Rattle.slotted_model.specs.Ascending.{IsAscending}
@@ -11,7 +12,6 @@ use Rattle.slotted_model.proofs.Correspondences.FullMaps.{full-partial}
 use Rattle.slotted_model.proofs.Correspondences.Pairs.{Contains-value}
 use Rattle.slotted_model.proofs.Correspondences.PartialInjections.{identity-composite}
 use Rattle.slotted_model.proofs.Finds.Finding.{Leads, find_class-live, find_map-live, leads}
-use Rattle.slotted_model.proofs.Data.Members.{Contains-In, In, In-Contains}
 use Rattle.slotted_model.proofs.Finds.NormalIds.{found-class_live, found-slots, used-live}
 use Rattle.slotted_model.proofs.Data.Sets.{IsAscending-ascending}
 use Rattle.slotted_classes.specs.Finding.{HasFinds, IsFindable}

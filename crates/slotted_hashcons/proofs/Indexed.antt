@@ -6,10 +6,12 @@ use Rattle.std.proofs.Math.ListN as seq
 use Rattle.std.proofs.lemmas.Bool.{cases_eq}
 use Rattle.std.proofs.lemmas.List.{get_or-set_same, get_or-set_other, length-append, length-map, length-set}
 use Rattle.std.proofs.lemmas.Option.{slice_get_within}
+use Rattle.slotted_lists.proofs.Options.{Some-same}
+use Rattle.slotted_lists.proofs.Lists.{slice_get-append_left, slice_get-append_end}
 use Rattle.slotted_nodes.specs.Form.{Form}
 use Rattle.slotted_hashcons.specs.Filed.{Filing, FiledRow, HasKey, IsNewKey, IsNewToOthers, HasKeysOnce, IsIndexed, filed_at, filed_of, place_of}
 use Rattle.slotted_hashcons.proofs.CountedPlaces.{length-swapped, taken-added, taken-freed, taken-mapped, taken-moved, taken-put}
-use Rattle.slotted_hashcons.proofs.Places.{same-places, at-append_left, at-append_end, at-append_cases, swapped-other, swapped-cases}
+use Rattle.slotted_hashcons.proofs.Places.{same-places, at-append_cases, swapped-other, swapped-cases}
 
 -- the class of a row that stands somewhere
 pub source-row : (o : Option FiledRow) (i : ℕ) → Some i ≡ option_map (λ (r : FiledRow). r.1.0) o → (r : FiledRow) × (o ≡ Some r) × (r.1.0 ≡ i)
@@ -28,9 +30,6 @@ filed_in rows places = map (filed_at rows) places
 pub filed-at : (rows : List FiledRow) (places : List (Option ℕ)) (i : ℕ) → filed_of (filed_in rows places) i ≡ filed_at rows (place_of places i)
 filed-at rows places i = seq.get_or-map (filed_at rows) places i None
 
-some-is : {X : Type 0} (x y : X) → Some x ≡ Some y → x ≡ y
-some-is x y e = cc
-
 none-some : {X : Type 0} (x : X) → None ≡ Some x → ⊥
 none-some x e = cc
 
@@ -47,7 +46,7 @@ pub key-row : (rows : List FiledRow) (places : List (Option ℕ)) → IsIndexed 
 key-row rows places h i f k = elim (place_of places i) as (λ o. place_of places i ≡ o → (p : ℕ) × (r : FiledRow) × (slice_get rows p ≡ Some r) × (r.1.0 ≡ i) × (r.0 ≡ f)) [
   | None ↦ λ e. absurd (none-some (f, k.0) (sym (ap (filed_at rows) e) ∙ sym (filed-at rows places i) ∙ k.1))
   | Some p ↦ λ e. let r = filed-row rows places h i p e in
-      (p, r.0, r.1, r.2, ap (λ (x : Filing). x.0) (some-is (r.0.0, r.0.1.1) (f, k.0) (sym r.3 ∙ k.1)))
+      (p, r.0, r.1, r.2, ap (λ (x : Filing). x.0) (Some-same (r.0.0, r.0.1.1) (f, k.0) (sym r.3 ∙ k.1)))
 ] refl
 
 -- each row is the key of its class
@@ -62,7 +61,7 @@ keys-once rows places h i j f a b =
     let p = key-row rows places h i f a in
     let q = key-row rows places h j f b in
     let same = h.keys p.0 q.0 p.1 q.1 p.2 q.2 (p.4 ∙ sym q.4) in
-    let r = some-is p.1 q.1 (sym p.2 ∙ ap (slice_get rows) same ∙ q.2) in
+    let r = Some-same p.1 q.1 (sym p.2 ∙ ap (slice_get rows) same ∙ q.2) in
     sym p.3 ∙ ap (λ (x : FiledRow). x.1.0) r ∙ q.3
 
 -- a class without a node has no place
@@ -129,9 +128,9 @@ module _ (rows : List FiledRow) (places : List (Option ℕ)) (c : ℕ) (f : Form
   pub indexed-filed : IsIndexed more now
   indexed-filed = record {
     rows_at = λ i p e. elim (cases_eq i c) [
-      | inl k ↦ let q = some-is (length rows) p (sym now-same ∙ ap (place_of now) (sym k) ∙ e) in
-          (row, subst (λ x. slice_get more x ≡ Some row) q (at-append_end rows row), sym k)
-      | inr n ↦ let r = h.rows_at i p (sym (now-other i n) ∙ e) in (r.0, at-append_left rows (row ∷ []) p r.0 r.1, r.2)
+      | inl k ↦ let q = Some-same (length rows) p (sym now-same ∙ ap (place_of now) (sym k) ∙ e) in
+          (row, subst (λ x. slice_get more x ≡ Some row) q (slice_get-append_end rows row), sym k)
+      | inr n ↦ let r = h.rows_at i p (sym (now-other i n) ∙ e) in (r.0, slice_get-append_left rows (row ∷ []) p r.0 r.1, r.2)
     ];
     sources = λ p r e. elim (at-append_cases rows row p r e) [
       | inl k ↦ now-other r.1.0 (not-there p r k) ∙ h.sources p r k
@@ -154,7 +153,7 @@ module _ (rows : List FiledRow) (places : List (Option ℕ)) (c : ℕ) (f : Form
   filed-more i n = filed-at more now i ∙ ap (filed_at more) (now-other i n) ∙ (elim (place_of places i) as (λ o. place_of places i ≡ o → filed_at more o ≡ filed_at rows o) [
     | None ↦ λ e. refl
     | Some p ↦ λ e. let r = h.rows_at i p e in
-        ap (option_map (λ (q : FiledRow). (q.0, q.1.1))) (at-append_left rows (row ∷ []) p r.0 r.1 ∙ sym r.1)
+        ap (option_map (λ (q : FiledRow). (q.0, q.1.1))) (slice_get-append_left rows (row ∷ []) p r.0 r.1 ∙ sym r.1)
   ]) refl ∙ sym (filed-at rows places i)
 
   pub view-filed : filed_in more now ≡ set (filed_in rows places) c (Some (f, m))
@@ -162,7 +161,7 @@ module _ (rows : List FiledRow) (places : List (Option ℕ)) (c : ℕ) (f : Form
       (length-map now (filed_at more) ∙ length-set places c (Some (length rows)) ∙ sym (length-map places (filed_at rows)) ∙ sym (length-set (filed_in rows places) c (Some (f, m))))
       (λ i. elim (cases_eq i c) [
         | inl k ↦ subst (λ x. filed_of (filed_in more now) x ≡ filed_of (set (filed_in rows places) c (Some (f, m))) x) (sym k)
-            (filed-at more now c ∙ ap (filed_at more) now-same ∙ ap (option_map (λ (q : FiledRow). (q.0, q.1.1))) (at-append_end rows row)
+            (filed-at more now c ∙ ap (filed_at more) now-same ∙ ap (option_map (λ (q : FiledRow). (q.0, q.1.1))) (slice_get-append_end rows row)
             ∙ sym (get_or-set_same (filed_in rows places) c (Some (f, m)) None (subst (λ n. c < n) (sym (length-map places (filed_at rows))) within)))
         | inr n ↦ filed-more i n ∙ sym (get_or-set_other (filed_in rows places) c i (Some (f, m)) None n)
       ])
@@ -191,12 +190,12 @@ module _ (rows : List FiledRow) (places : List (Option ℕ)) (c p : ℕ) (d : Fi
   apart : (i q : ℕ) → i ≢ c → place_of places i ≡ Some q → q ≢ p
   apart i q n e k =
       let r = h.rows_at i q e in
-      let same = some-is r.0 taken.0 (sym r.1 ∙ ap (slice_get rows) k ∙ taken.1) in
+      let same = Some-same r.0 taken.0 (sym r.1 ∙ ap (slice_get rows) k ∙ taken.1) in
       n (sym r.2 ∙ ap (λ (x : FiledRow). x.1.0) same ∙ taken.2)
 
   -- a row at another place is of another class
   other-source : (q : ℕ) (r : FiledRow) → slice_get rows q ≡ Some r → q ≢ p → r.1.0 ≢ c
-  other-source q r e n k = n (some-is q p (sym (h.sources q r e) ∙ ap (place_of places) k ∙ at))
+  other-source q r e n k = n (Some-same q p (sym (h.sources q r e) ∙ ap (place_of places) k ∙ at))
 
   keys-fewer : (q s : ℕ) (a b : FiledRow) → slice_get fewer q ≡ Some a → slice_get fewer s ≡ Some b → a.0 ≡ b.0 → q ≡ s
   keys-fewer q s a b e k same =
@@ -264,7 +263,7 @@ module _ (rows : List FiledRow) (places : List (Option ℕ)) (c p : ℕ) (d : Fi
     at-last = h.sources (length rows - 1) mover was-last.1
 
     not-taken : mover.1.0 ≢ c
-    not-taken k = let z = some-is (length rows - 1) p (sym at-last ∙ ap (place_of places) k ∙ at) in let w = was-last.0 in omega (arith, z, w)
+    not-taken k = let z = Some-same (length rows - 1) p (sym at-last ∙ ap (place_of places) k ∙ at) in let w = was-last.0 in omega (arith, z, w)
 
     mover-within : mover.1.0 < length without
     mover-within = subst (λ n. mover.1.0 < n) (sym (length-set places c None)) (place-within places mover.1.0 (length rows - 1) at-last)
@@ -282,13 +281,13 @@ module _ (rows : List FiledRow) (places : List (Option ℕ)) (c p : ℕ) (d : Fi
     keeps i q n m e =
         let r = h.rows_at i q e in
         let w = slice_get_within rows q r.0 r.1 in
-        let other : q ≢ length rows - 1 = λ k. m (sym r.2 ∙ ap (λ (x : FiledRow). x.1.0) (some-is r.0 mover (sym r.1 ∙ ap (slice_get rows) k ∙ was-last.1))) in
+        let other : q ≢ length rows - 1 = λ k. m (sym r.2 ∙ ap (λ (x : FiledRow). x.1.0) (Some-same r.0 mover (sym r.1 ∙ ap (slice_get rows) k ∙ was-last.1))) in
         (omega (arith, w, other), apart i q n e)
 
     pub indexed-moved : IsIndexed fewer after
     indexed-moved = record {
       rows_at = λ i q e. elim (cases_eq i mover.1.0) [
-        | inl k ↦ let z = some-is p q (sym after-same ∙ ap (place_of after) (sym k) ∙ e) in (mover, subst (λ x. slice_get fewer x ≡ Some mover) z moves, sym k)
+        | inl k ↦ let z = Some-same p q (sym after-same ∙ ap (place_of after) (sym k) ∙ e) in (mover, subst (λ x. slice_get fewer x ≡ Some mover) z moves, sym k)
         | inr m ↦ elim (cases_eq i c) [
           | inl k ↦ absurd (none-some q (sym without-same ∙ ap (place_of without) (sym k) ∙ sym (after-other i m) ∙ e))
           | inr n ↦ let f = sym (without-other i n) ∙ sym (after-other i m) ∙ e in let r = h.rows_at i q f in let w = keeps i q n m f in
@@ -298,8 +297,8 @@ module _ (rows : List FiledRow) (places : List (Option ℕ)) (c p : ℕ) (d : Fi
       sources = λ q r e. let x = swapped-cases rows p d q r within e in elim x.1 [
         | inl m ↦ let n = other-source q r m.1 m.0 in
             let w = x.0 in
-            after-other r.1.0 (λ k. let z = some-is q (length rows - 1) (sym (h.sources q r m.1) ∙ ap (place_of places) k ∙ at-last) in omega (arith, z, w)) ∙ without-other r.1.0 n ∙ h.sources q r m.1
-        | inr m ↦ let same = some-is r mover (sym m.1 ∙ was-last.1) in
+            after-other r.1.0 (λ k. let z = Some-same q (length rows - 1) (sym (h.sources q r m.1) ∙ ap (place_of places) k ∙ at-last) in omega (arith, z, w)) ∙ without-other r.1.0 n ∙ h.sources q r m.1
+        | inr m ↦ let same = Some-same r mover (sym m.1 ∙ was-last.1) in
             ap (λ (y : FiledRow). place_of after y.1.0) same ∙ after-same ∙ ap Some (sym m.0)
       ];
       keys = keys-fewer;

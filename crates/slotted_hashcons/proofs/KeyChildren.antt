@@ -3,8 +3,8 @@ use Rattle.std.proofs.Common.{◌≡◌, ◌∙◌, ◌<◌, ℕ, suc, List, [],
 use Rattle.std.specs.Prelude.{Contains, slice_index_or, slice_index}
 use Rattle.std.proofs.lemmas.List.{map-append}
 use Rattle.std.proofs.lemmas.List.Elements.{Contains-get_or}
+use Rattle.slotted_lists.proofs.Contained.{contains_cases, Contains-nil, Contains-map, Contains-of_map}
 use Rattle.slotted_theory.specs.Nameless.{extend, nameless_args}
-use Rattle.slotted_theory.proofs.Lists.{contains_cases, Contains-nil, Contains-map, Contains-of_map}
 use Rattle.slotted_nodes.specs.Form.{Form, Tree, leaf, own, child, bind, scopes, children, child_id}
 use Rattle.slotted_languages.specs.NodeTerm.{node_args}
 use Rattle.slotted_model.specs.State.{child_classes}

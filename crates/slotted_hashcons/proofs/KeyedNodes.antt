@@ -1,6 +1,9 @@
 -- What is filed of a class: a key, which is a shape, with the slot of the class for each number of it.
-use Rattle.std.proofs.Common.{◌≡◌, ◌<◌, ◌≤◌, ℕ, List, [], ◌∷◌, length, map, ap, ◌∙◌, sym, refl, subst, arith}
+use Rattle.std.proofs.Common.{◌≡◌, ◌<◌, ◌≤◌, ℕ, List, length, map, ap, ◌∙◌, sym, subst, arith}
 use Rattle.std.specs.Prelude.{slice_index_or}
+use Rattle.slotted_lists.proofs.Members.{In, In-map}
+use Rattle.slotted_lists.proofs.Maps.{is_among-In, In-is_among, keys-with_values, values-with_values}
+use Rattle.slotted_lists.proofs.Lists.{map-injective}
 use Rattle.slotted_theory.specs.Nameless.{DTerm, moved}
 use Rattle.slotted_theory.specs.FiniteMaps.{filled, IsInjectiveMap, with_values}
 use Rattle.slotted_theory.specs.Renaming.{IsInjective}
@@ -19,8 +22,7 @@ use Rattle.slotted_model.specs.Find.{find, used_slots}
 use Rattle.slotted_model.specs.Normal.{normal}
 use Rattle.slotted_model.specs.State.{normal_node}
 use Rattle.slotted_model.proofs.Finds.Congruence.{normal_args-names}
-use Rattle.slotted_model.proofs.Data.Maps.{IsInjectiveMap-with_values, filled-pair, keys-with_values, map_on-filled, pair-filled, values-map_on, values-with_values}
-use Rattle.slotted_model.proofs.Data.Members.{In, In-map}
+use Rattle.slotted_model.proofs.Data.Maps.{IsInjectiveMap-with_values, filled-pair, map_on-filled, pair-filled, values-map_on}
 use Rattle.slotted_model.proofs.Represented.RenamedIds.{normal-moves}
 use Rattle.slotted_model.proofs.Data.Theory.{free_names-moved, moved-agrees, moved-moved}
 use Rattle.slotted_proofs.proofs.Bridges.{ascends}
@@ -31,19 +33,9 @@ use Rattle.slotted_hashcons.specs.FoundNodes.{FilesNode, HasNoMorePlaces, IsFoun
 use Rattle.slotted_hashcons.specs.NormalNodes.{HasFindableChildren}
 use Rattle.slotted_classes.proofs.ClassNodes.{node-is}
 use Rattle.slotted_hashcons.proofs.FoundChildren.{child_ids-valid, found-nameless, found-places}
-use Rattle.slotted_hashcons.proofs.NumbersInShapes.{In-among, among-In, firsts-map}
+use Rattle.slotted_hashcons.proofs.NumbersInShapes.{firsts-map}
 use Rattle.slotted_hashcons.proofs.ReplacedChildren.{first_form, first_names-fit}
 use Rattle.slotted_hashcons.proofs.ShapesOfNodes.{found-from, shape-again}
-
--- an injective function tells lists apart
-map-apart : (F : ℕ → ℕ) → IsInjective F → (xs ys : List ℕ) → map F xs ≡ map F ys → xs ≡ ys
-map-apart F inj [] [] e = refl
-map-apart F inj [] (y ∷ ys) e = cc
-map-apart F inj (x ∷ xs) [] e = cc
-map-apart F inj (x ∷ xs) (y ∷ ys) e =
-    let h : F x ≡ F y = cc in
-    let t : map F xs ≡ map F ys = cc in
-    λ i. inj x y h i ∷ map-apart F inj xs ys t i
 
 -- a node that is the shape of itself has its numbers as names, each where it first stands
 pub own-numbers : (f : Form) → Fits f → (shape f).0 ≡ f → keys (shape f).1 ≡ firsts (free_names_of f)
@@ -53,7 +45,7 @@ own-numbers f fits own =
     let inj : IsInjective F = filled-injective m (injective-shape f) in
     let back : moved F (nameless_node f) ≡ nameless_node f = ap (λ (h : Form). moved F (nameless_node h)) (sym own) ∙ shape-renamed f fits in
     let e : map_on F (keys m) ≡ with_values F m = map_on-filled m (ascends (keys m) (keys-shape f)) ∙ (shape-same F inj f f back).1 in
-    map-apart F inj (keys m) (values m) (sym (values-map_on F (keys m)) ∙ (ap values e ∙ values-with_values F m)) ∙ values-shape f
+    map-injective F inj (keys m) (values m) (sym (values-map_on F (keys m)) ∙ (ap values e ∙ values-with_values F m)) ∙ values-shape f
 
 -- nodes that are one node up to names have as many places
 pub same-places : (F : ℕ → ℕ) → IsInjective F → (f g : Form) → Fits f → Fits g → moved F (nameless_node f) ≡ nameless_node g → length f.names ≡ length g.names
@@ -92,7 +84,7 @@ module _ (k : Kept) (f : Form) (fits : Fits f) (findable : HasFindableChildren k
     knows j d lt =
         let xs : List ℕ = free_names_of c in
         let x : ℕ = slice_index_or xs j d in
-        is_some-value_of slots x ∙ In-among (keys slots) x (is-number x (among-In xs x (is_among-at xs j d lt)))
+        is_some-value_of slots x ∙ In-is_among (keys slots) x (is-number x (is_among-In xs x (is_among-at xs j d lt)))
 
     pub refound : (g : Form) (own : List (ℕ × ℕ)) → Fits c → Fits g → ◌≡◌ {A = Form × List (ℕ × ℕ)} (g, own) (shape c) → IsFoundNode k i g (composed own slots)
     refound g own of_c of_g e =

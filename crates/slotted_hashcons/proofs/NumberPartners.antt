@@ -1,6 +1,7 @@
 -- Slots of two classes that have one number: they are paired, and the sides that share names there are twins.
 use Rattle.std.proofs.Common.{◌≡◌, ◌↔◌, ◌<◌, ℕ, List, length, refl, ap, ◌∙◌, sym, subst}
 use Rattle.std.specs.Prelude.{Contains, map}
+use Rattle.slotted_lists.proofs.Members.{In, In-of_map, In-Contains, Contains-In}
 use Rattle.slotted_theory.specs.Nameless.{DTerm}
 use Rattle.slotted_theory.specs.FiniteMaps.{filled}
 use Rattle.slotted_theory.specs.Shape.{free_names, number_in}
@@ -23,7 +24,6 @@ use Rattle.slotted_model.proofs.Correspondences.FullMaps.{full-from, full-partia
 use Rattle.slotted_model.proofs.Correspondences.Pairs.{Contains-value, Contains-of_value}
 use Rattle.slotted_model.proofs.Correspondences.PartialInjections.{composite-by, composite-over, composite-partial, identity-by, identity-pair, in_order-ext, turned-by, turned-pair, turned-partial}
 use Rattle.slotted_model.proofs.Data.Maps.{filled-pair}
-use Rattle.slotted_model.proofs.Data.Members.{In, In-of_map, In-Contains, Contains-In}
 use Rattle.slotted_model.proofs.Finds.NormalIds.{keys-identity}
 use Rattle.slotted_model.proofs.Data.Sets.{In-of_ascending}
 use Rattle.slotted_model.proofs.Data.Theory.{free_names-moved}

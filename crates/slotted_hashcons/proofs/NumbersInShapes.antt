@@ -1,9 +1,11 @@
 -- The numbers of a shape and the free names in the order in which they first stand are beside one another.
 use Rattle.std.proofs.Common.{◌≡◌, ℕ, suc, ◌<◌, List, [], ◌∷◌, ◌++◌, length, map, cond, refl, ap, ◌∙◌, sym, subst, arith, append_assoc, length-append, inl, inr}
-use Rattle.std.specs.Prelude.{Bool, true, false, nat_eq, ◌||◌}
+use Rattle.std.specs.Prelude.{Bool, true, false, ◌||◌}
 use Rattle.std.specs.List.{zip}
 use Rattle.std.proofs.lemmas.List.{map-append}
-use Rattle.std.proofs.lemmas.Bool.{cases_eq, eq-eqb, ne_eqb, false≢true}
+use Rattle.std.proofs.lemmas.Bool.{false≢true}
+use Rattle.slotted_lists.proofs.Members.{In, In-append, In-left, In-right, In-map, In-of_map}
+use Rattle.slotted_lists.proofs.Maps.{is_among-In, In-is_among}
 use Rattle.slotted_theory.specs.Nameless.{DTerm}
 use Rattle.slotted_theory.specs.Renaming.{IsInjective}
 use Rattle.slotted_theory.specs.Shape.{free_names, number_in, shape}
@@ -14,7 +16,6 @@ use Rattle.slotted_languages.specs.Shape.{added, firsts}
 use Rattle.slotted_model.specs.Applied.{map_on}
 use Rattle.slotted_model.specs.Ascending.{IsAscending, ascending, names}
 use Rattle.slotted_model.specs.State.{name_numbered}
-use Rattle.slotted_model.proofs.Data.Members.{In, In-append, In-left, In-right, In-map, In-of_map}
 use Rattle.slotted_model.proofs.Rebuilding.Rows.{name_numbered-at}
 use Rattle.slotted_model.proofs.Data.Sets.{In-ascending, In-of_ascending, IsAscending-ascending, below_each, below_from_each, same_members}
 use Rattle.slotted_model.proofs.Data.Theory.{free_names-moved}
@@ -40,30 +41,18 @@ ascending-last (x ∷ xs) n a h =
         last (inl e) = let l : x < n = h x (inl refl) in omega arith
         last (inr e) = absurd e
 
-pub among-In : (xs : List ℕ) (x : ℕ) → is_among x xs ≡ true → In x xs
-among-In [] x h = absurd (false≢true h)
-among-In (y ∷ ys) x h = elim (cases_eq y x) [
-  | inl e ↦ inl (sym e)
-  | inr n ↦ inr (among-In ys x (sym (ap (λ b. b || is_among x ys) (ne_eqb y x n)) ∙ h))
-]
-
 or-true : (b : Bool) → (b || true) ≡ true
 or-true true = refl
 or-true false = refl
-
-pub In-among : (xs : List ℕ) (x : ℕ) → In x xs → is_among x xs ≡ true
-In-among [] x h = absurd h
-In-among (y ∷ ys) x (inl e) = ap (λ b. b || is_among x ys) (eq-eqb y x (sym e))
-In-among (y ∷ ys) x (inr h) = ap (λ b. nat_eq y x || b) (In-among ys x h) ∙ or-true (nat_eq y x)
 
 -- an injective function moves the names of a list each to one place, and where each first stands
 among-map : (f : ℕ → ℕ) → IsInjective f → (x : ℕ) (vs : List ℕ) → is_among (f x) (map f vs) ≡ is_among x vs
 among-map f inj x vs =
     same_test (is_among (f x) (map f vs)) (is_among x vs)
     (λ h.
-    let r : (v : ℕ) × In v vs × (f x ≡ f v) = In-of_map f vs (f x) (among-In (map f vs) (f x) h) in
-    In-among vs x (subst (λ v. In v vs) (sym (inj x r.0 r.2)) r.1))
-    (λ h. In-among (map f vs) (f x) (In-map f vs x (among-In vs x h)))
+    let r : (v : ℕ) × In v vs × (f x ≡ f v) = In-of_map f vs (f x) (is_among-In (map f vs) (f x) h) in
+    In-is_among vs x (subst (λ v. In v vs) (sym (inj x r.0 r.2)) r.1))
+    (λ h. In-is_among (map f vs) (f x) (In-map f vs x (is_among-In vs x h)))
 
 added-map : (f : ℕ → ℕ) → IsInjective f → (vs xs : List ℕ) → added (map f vs) (map f xs) ≡ map f (added vs xs)
 added-map f inj vs [] = refl
@@ -95,12 +84,12 @@ one_more whole ys zs vs x true e a s = record {
   below = λ v h. omega (arith, s.below v h, length-append ys (x ∷ []));
   all = λ y h. elim (In-append y ys (x ∷ []) h) [
     | inl k ↦ s.all y k
-    | inr k ↦ subst (λ z. In z vs) (sym (last-one y x k)) (among-In vs x a)
+    | inr k ↦ subst (λ z. In z vs) (sym (last-one y x k)) (is_among-In vs x a)
   ];
 }
 one_more whole ys zs vs x false e a s =
     let N : ℕ → ℕ = number_in whole in
-    let new : ¬ In x ys = λ h. false≢true (sym a ∙ In-among vs x (s.all x h)) in
+    let new : ¬ In x ys = λ h. false≢true (sym a ∙ In-is_among vs x (s.all x h)) in
     let n : N x ≡ length ys = ap (λ w. number_in w x) e ∙ number-new ys zs x new in
     record {
       ascends = subst IsAscending (sym (map-append N vs (x ∷ []) ∙ ap (λ m. map N vs ++ m ∷ []) n))

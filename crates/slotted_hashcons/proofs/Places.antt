@@ -22,15 +22,6 @@ read-any [] i x d w e = absurd (omega (arith, w))
 read-any (y ∷ xs) zero x d w e = sym e
 read-any (y ∷ xs) (suc i) x d w e = read-any xs i x d (omega (arith, w)) e
 
-pub at-append_left : {X : Type 0} (xs ys : List X) (p : ℕ) (x : X) → slice_get xs p ≡ Some x → slice_get (xs ++ ys) p ≡ Some x
-at-append_left [] ys p x e = cc
-at-append_left (y ∷ xs) ys zero x e = e
-at-append_left (y ∷ xs) ys (suc p) x e = at-append_left xs ys p x e
-
-pub at-append_end : {X : Type 0} (xs : List X) (y : X) → slice_get (xs ++ y ∷ []) (length xs) ≡ Some y
-at-append_end [] y = refl
-at-append_end (x ∷ xs) y = at-append_end xs y
-
 pub at-append_cases : {X : Type 0} (xs : List X) (y : X) (p : ℕ) (x : X) → slice_get (xs ++ y ∷ []) p ≡ Some x → (slice_get xs p ≡ Some x) ⊎ ((p ≡ length xs) × (x ≡ y))
 at-append_cases [] y zero x e = inr (refl, cc)
 at-append_cases [] y (suc p) x e = cc

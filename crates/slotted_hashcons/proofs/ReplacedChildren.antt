@@ -2,15 +2,17 @@
 use Rattle.std.proofs.Common.{◌≡◌, ℕ, suc, zero, ◌+◌, ◌-◌, ◌<◌, ◌≤◌, List, [], ◌∷◌, ◌++◌, length, take, drop, refl, slice_index, ap, ◌∙◌, sym, arith, length-append, length-drop, length-take, zero-add, add-one, inl, inr}
 use Rattle.std.specs.Prelude.{Option, None, map, slice_index_or}
 use Rattle.std.specs.List.{zip}
-use Rattle.std.proofs.lemmas.Grind.{common_steps}
 use Rattle.std.proofs.lemmas.List.{length-map, take-append-drop}
 use Rattle.std.proofs.Math.Nat.{sub-zero}
+use Rattle.slotted_lists.proofs.Lists.{first-and_rest, length-parts}
+use Rattle.slotted_lists.proofs.Maps.{keys-zip, values-zip}
 use Rattle.slotted_slots.specs.Maps.{keys, values}
 use Rattle.slotted_nodes.specs.Form.{Form, Tree, leaf, own, child, bind, scopes, children, with_child, bind_form, join_form}
 use Rattle.slotted_nodes.specs.Equal.{form_ext, bind_form_fits}
 use Rattle.slotted_nodes.specs.Joined.{at_append}
 use Rattle.slotted_nodes.proofs.Pairs.{with_child_left, with_child_right}
 use Rattle.slotted_model.specs.Applied.{Applied}
+use Rattle.slotted_languages.proofs.Outlines.{below_binder}
 use Rattle.slotted_classes.specs.ChildIds.{ids_in, child_ids}
 use Rattle.slotted_classes.proofs.ChildIds.{length-ids}
 
@@ -39,15 +41,6 @@ first_tree-none f (child i ks r) (suc k) xs e = absurd (omega arith)
 first_tree-none f (bind u r) k xs e =
     λ i. bind (first_tree-none f u k (take (length (scopes u)) (drop 1 xs)) e i) (first_tree-none f r (k - length (children u)) (drop (length (scopes u)) (drop 1 xs)) (omega arith) i)
 
--- a list with a first name, and the names below a binder
-first_name : (xs : List ℕ) (n : ℕ) → length xs ≡ suc n → slice_index xs 0 ∷ drop 1 xs ≡ xs
-first_name [] n h = absurd (omega arith)
-first_name (x ∷ xs) n h = refl
-
-length_below : (xs : List ℕ) (n m : ℕ) → length xs ≡ suc (n + m) → (length (take n (drop 1 xs)) ≡ n) × (length (drop n (drop 1 xs)) ≡ m)
-length_below xs n m h =
-    (omega (arith, length-take n (drop 1 xs), length-drop 1 xs), omega (arith, length-drop n (drop 1 xs), length-drop 1 xs))
-
 -- the names after a child
 length_after : (i : ℕ) (ks : List ℕ) (r : Tree) (xs : List ℕ) → length xs ≡ length (scopes (child i ks r)) → length (drop (length ks) xs) ≡ length (scopes r)
 length_after i ks r xs h = omega (arith, length-drop (length ks) xs, length-append (map {B = Option ℕ} (λ _. None) ks) (scopes r), length-map {B = Option ℕ} ks (λ _. None))
@@ -55,15 +48,15 @@ length_after i ks r xs h = omega (arith, length-drop (length ks) xs, length-appe
 first_names-none : (f : Applied → Applied) (u : Tree) (k : ℕ) (xs : List ℕ) → k ≡ 0 → length xs ≡ length (scopes u) → first_names f u k xs ≡ xs
 first_names-none f leaf k xs e h = refl
 first_names-none f (own r) k xs e h =
-    ap (λ ys. slice_index xs 0 ∷ ys) (first_names-none f r k (drop 1 xs) e (omega (arith, length-drop 1 xs))) ∙ first_name xs (length (scopes r)) h
+    ap (λ ys. slice_index xs 0 ∷ ys) (first_names-none f r k (drop 1 xs) e (omega (arith, length-drop 1 xs))) ∙ first-and_rest xs (length (scopes r)) h
 first_names-none f (child i ks r) zero xs e h = refl
 first_names-none f (child i ks r) (suc k) xs e h = absurd (omega arith)
 first_names-none f (bind u r) k xs e h =
     let n = length (scopes u) in
     let w : length xs ≡ suc (n + length (scopes r)) = omega (arith, length-append (scopes u) (scopes r)) in
-    let l = length_below xs n (length (scopes r)) w in
+    let l = length-parts xs n (length (scopes r)) w in
     (λ i. slice_index xs 0 ∷ first_names-none f u k (take n (drop 1 xs)) e l.0 i ++ first_names-none f r (k - length (children u)) (drop n (drop 1 xs)) (omega arith) l.1 i)
-    ∙ (ap (λ ys. slice_index xs 0 ∷ ys) (take-append-drop n (drop 1 xs)) ∙ first_name xs (n + length (scopes r)) w)
+    ∙ (ap (λ ys. slice_index xs 0 ∷ ys) (take-append-drop n (drop 1 xs)) ∙ first-and_rest xs (n + length (scopes r)) w)
 
 pub length_children-first : (f : Applied → Applied) (u : Tree) (k : ℕ) (xs : List ℕ) → length (children (first_tree f u k xs)) ≡ length (children u)
 length_children-first f leaf k xs = refl
@@ -97,7 +90,7 @@ first_names-fit f (bind u r) k xs h =
     let n = length (scopes u) in
     let m = k - length (children u) in
     let w : length xs ≡ suc (n + length (scopes r)) = omega (arith, length-append (scopes u) (scopes r)) in
-    let l = length_below xs n (length (scopes r)) w in
+    let l = length-parts xs n (length (scopes r)) w in
     let us = first_names f u k (take n (drop 1 xs)) in
     let rs = first_names f r m (drop n (drop 1 xs)) in
     omega (arith, length-append us rs, length-append (scopes (first_tree f u k (take n (drop 1 xs)))) (scopes (first_tree f r m (drop n (drop 1 xs)))), first_names-fit f u k (take n (drop 1 xs)) l.0, first_names-fit f r m (drop n (drop 1 xs)) l.1)
@@ -133,9 +126,6 @@ first_names-all f (bind u r) k xs h =
 part : Tree → List ℕ → Form
 part t xs = record { operator = 0; payloads = []; tree = t; names = xs }
 
-below_binder : (x : ℕ) (g : Form) (k j : ℕ) (ls xs : List ℕ) → k < length (children g.tree) → with_child (bind_form x g) k j ls xs ≡ bind_form x (with_child g k j ls xs)
-below_binder x g k j ls xs h = grind (arith, common_steps)
-
 -- one more child
 step : (f : Applied → Applied) (u : Tree) (k : ℕ) (xs : List ℕ) (b d : Applied) → k < length (children u) → length xs ≡ length (scopes u) → b ≡ f (slice_index_or (ids_in u xs) k d) →
     with_child (part (first_tree f u k xs) (first_names f u k xs)) k b.0 (keys b.1) (values b.1) ≡ part (first_tree f u (suc k) xs) (first_names f u (suc k) xs)
@@ -167,7 +157,7 @@ step f (bind u r) k xs b d h e q =
     let us = take n (drop 1 xs) in
     let rs = drop n (drop 1 xs) in
     let w : length xs ≡ suc (n + length (scopes r)) = omega (arith, length-append (scopes u) (scopes r)) in
-    let l = length_below xs n (length (scopes r)) w in
+    let l = length-parts xs n (length (scopes r)) w in
     let a = part (first_tree f u k us) (first_names f u k us) in
     let p = bind_form (slice_index xs 0) a in
     let g = part (first_tree f r m rs) (first_names f r m rs) in
@@ -191,17 +181,6 @@ step f (bind u r) k xs b d h e q =
           ∙ (ap (join_form p) (step f r m rs b d (omega arith) l.1 (q ∙ ap f (s.1 ∙ ap (λ (x : ℕ). slice_index_or (ids_in r rs) x d) v)))
           ∙ (λ j. join_form (bind_form (slice_index xs 0) (part (first_tree-all f u k us t j) (first_names-all f u k us t j))) (part (first_tree f r (z j) rs) (first_names f r (z j) rs)))))
     ]
-
-keys-zip : (ks vs : List ℕ) → length vs ≡ length ks → keys (zip ks vs) ≡ ks
-keys-zip [] vs h = refl
-keys-zip (k ∷ ks) [] h = absurd (omega arith)
-keys-zip (k ∷ ks) (v ∷ vs) h = ap (λ xs. k ∷ xs) (keys-zip ks vs (omega arith))
-
-values-zip : (ks vs : List ℕ) → length vs ≡ length ks → values (zip ks vs) ≡ vs
-values-zip [] [] h = refl
-values-zip [] (v ∷ vs) h = absurd (omega arith)
-values-zip (k ∷ ks) [] h = absurd (omega arith)
-values-zip (k ∷ ks) (v ∷ vs) h = ap (λ xs. v ∷ xs) (values-zip ks vs (omega arith))
 
 -- one more child that f leaves as it is
 same : (f : Applied → Applied) (u : Tree) (k : ℕ) (xs : List ℕ) (d : Applied) → k < length (children u) → length xs ≡ length (scopes u) → slice_index_or (ids_in u xs) k d ≡ f (slice_index_or (ids_in u xs) k d) →
@@ -229,7 +208,7 @@ same f (bind u r) k xs d h e q =
     let us = take n (drop 1 xs) in
     let rs = drop n (drop 1 xs) in
     let w : length xs ≡ suc (n + length (scopes r)) = omega (arith, length-append (scopes u) (scopes r)) in
-    let l = length_below xs n (length (scopes r)) w in
+    let l = length-parts xs n (length (scopes r)) w in
     let o = length-append (children u) (children r) in
     elim (at_append (ids_in u us) (ids_in r rs) d k) [
       | inl s ↦

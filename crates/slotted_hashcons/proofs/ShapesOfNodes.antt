@@ -1,6 +1,8 @@
 -- The shape of the normal form of a class is the row by which the class is filed.
 use Rattle.std.proofs.Common.{◌≡◌, ℕ, List, ap, ◌∙◌, sym, subst}
 use Rattle.std.specs.List.{zip}
+use Rattle.slotted_lists.proofs.Members.{In, In-Contains, Contains-In}
+use Rattle.slotted_lists.proofs.Maps.{keys-with_values}
 use Rattle.slotted_theory.specs.Nameless.{DTerm, moved}
 use Rattle.slotted_theory.specs.FiniteMaps.{filled, IsInjectiveMap}
 use Rattle.slotted_theory.specs.Shape.{free_names}
@@ -14,8 +16,6 @@ use Rattle.slotted_languages.proofs.Shapes.{injective-shape, shape-same, shape_b
 use Rattle.slotted_model.specs.Applied.{keys, values, map_on}
 use Rattle.slotted_model.specs.Ascending.{names}
 use Rattle.slotted_model.specs.State.{Row, name_numbered, normal_node}
-use Rattle.slotted_model.proofs.Data.Maps.{keys-with_values}
-use Rattle.slotted_model.proofs.Data.Members.{In, In-Contains, Contains-In}
 use Rattle.slotted_model.proofs.Data.Sets.{In-ascending, In-of_ascending}
 use Rattle.slotted_classes.specs.Kept.{Kept}
 use Rattle.slotted_classes.proofs.NamePairs.{In-firsts}

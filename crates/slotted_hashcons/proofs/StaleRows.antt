@@ -3,6 +3,7 @@ use Rattle.std.proofs.Common.{◌≡◌, ℕ, ◌<◌, List, [], ◌∷◌, leng
 use Rattle.std.specs.Prelude.{Contains}
 use Rattle.std.specs.List.{zip}
 use Rattle.std.proofs.lemmas.List.{length-map}
+use Rattle.slotted_lists.proofs.Members.{In, In-map, In-of_map, In-Contains, Contains-In}
 use Rattle.slotted_theory.specs.Nameless.{DTerm, moved}
 use Rattle.slotted_theory.specs.FiniteMaps.{filled, HasValue, IsInjectiveMap}
 use Rattle.slotted_theory.specs.Shape.{free_names, number_in}
@@ -25,7 +26,6 @@ use Rattle.slotted_model.specs.Rest.{IsRow, IsValidIn, Sane}
 use Rattle.slotted_model.proofs.Represented.Children.{EachChild-moved}
 use Rattle.slotted_model.proofs.Rebuilding.Congruences.{row-normal}
 use Rattle.slotted_model.proofs.Data.Maps.{map_on-filled, filled-pair, pair-filled, values-map_on}
-use Rattle.slotted_model.proofs.Data.Members.{In, In-map, In-of_map, In-Contains, Contains-In}
 use Rattle.slotted_model.proofs.Represented.RenamedIds.{valid-renamed}
 use Rattle.slotted_model.proofs.Data.Sets.{IsAscending-ascending, In-ascending, In-of_ascending}
 use Rattle.slotted_model.proofs.Data.Theory.{moved-agrees, moved-moved, free_names-moved}

@@ -4,16 +4,17 @@ use Rattle.std.specs.Prelude.{Contains, IfNone, IfSome, set, slice_get, slice_in
 use Rattle.std.proofs.lemmas.Bool.{cases_eq}
 use Rattle.std.proofs.lemmas.List.{append-nil, get_or-set_same, get_or-set_other, length-set, length-append}
 use Rattle.std.proofs.lemmas.List.Elements.{Contains-append_left, Contains-append_right, Contains-append_cases}
+use Rattle.slotted_lists.proofs.Contained.{contains_head, contains_tail, contains_cases, Contains-nil}
+use Rattle.slotted_lists.proofs.Options.{Some-same}
 use borrow.Author.Count.{below_more}
-use Rattle.slotted_theory.proofs.Lists.{contains_head, contains_tail, contains_cases, Contains-nil}
 use Rattle.slotted_nodes.specs.Form.{Form, children, child_id}
 use Rattle.slotted_model.specs.Correspondence.{AllDifferent}
 use Rattle.slotted_model.specs.State.{Row, HasTouched, child_classes}
+use Rattle.slotted_model.proofs.Rebuilding.Touching.{different-added}
 use Rattle.slotted_hashcons.specs.Filed.{Filing, filed_of}
 use Rattle.slotted_hashcons.specs.FiledRows.{HasChildrenBelow, IsFiled, key_children, row_of_entry, rows_state}
 use Rattle.slotted_hashcons.specs.Over.{AreUsedMore, FitTogether, HasChild, IsUser, UsesEach, WaitOver, WaitsMore}
 use Rattle.slotted_hashcons.specs.Waiting.{Waiting, Pops, Pushes, with_one_more}
-use Rattle.slotted_hashcons.proofs.Flags.{different-added}
 use Rattle.slotted_hashcons.proofs.Indexed.{place-added, place-within}
 use Rattle.slotted_hashcons.proofs.FiledRows.{filed-row, row-children, row-filed}
 use Rattle.slotted_hashcons.proofs.KeyChildren.{child-read, place-contains}
@@ -32,11 +33,8 @@ fit-nothing = record {
 pub child-same : (v w : List (Option Filing)) (i c : ℕ) → filed_of w i ≡ filed_of v i → HasChild w i c → HasChild v i c
 child-same v w i c e h = record { key = h.key; names = h.names; filed = sym e ∙ h.filed; child = h.child }
 
-some-same : {X : Type 0} (x y : X) → Some x ≡ Some y → x ≡ y
-some-same x y e = cc
-
 pub child-key : (v : List (Option Filing)) (i c : ℕ) (f : Form) (m : List (ℕ × ℕ)) → filed_of v i ≡ Some (f, m) → HasChild v i c → Contains (key_children f) c
-child-key v i c f m e h = let s : h.key ≡ f = ap (λ (x : Filing). x.0) (some-same (h.key, h.names) (f, m) (sym h.filed ∙ e)) in subst (λ g. Contains (key_children g) c) s h.child
+child-key v i c f m e h = let s : h.key ≡ f = ap (λ (x : Filing). x.0) (Some-same (h.key, h.names) (f, m) (sym h.filed ∙ e)) in subst (λ g. Contains (key_children g) c) s h.child
 
 -- one push
 
@@ -331,7 +329,7 @@ module _ (v : List (Option Filing)) (us : List (List ℕ)) (w : Waiting) (fit : 
 
 front-is : (xs : List ℕ) (x : ℕ) → slice_get xs 0 ≡ Some x → (rest : List ℕ) × (xs ≡ x ∷ rest)
 front-is [] x e = cc
-front-is (y ∷ xs) x e = (xs, ap (λ z. z ∷ xs) (some-same y x e))
+front-is (y ∷ xs) x e = (xs, ap (λ z. z ∷ xs) (Some-same y x e))
 
 pub front-within : (v : List (Option Filing)) (us : List (List ℕ)) (w : Waiting) → FitTogether v us w → (i : ℕ) → slice_get w.queue 0 ≡ Some i → i < length v
 front-within v us w fit i e =
@@ -341,4 +339,4 @@ front-within v us w fit i e =
 
 pub popped : (o : Option ℕ) (w u : Waiting) (i : ℕ) → IfSome o (Pops w u) → IfNone o ((w.queue ≡ []) × (u ≡ w)) → slice_get w.queue 0 ≡ Some i → (w.queue ≡ i ∷ u.queue) × (u.count ≡ w.count)
 popped None w u i s n e = let empty : slice_get w.queue 0 ≡ None = ap (λ l. slice_get l 0) n.0 in cc
-popped (Some j) w u i s n e = let same : j ≡ i = some-same j i (sym (ap (λ l. slice_get l 0) s.0) ∙ e) in (s.0 ∙ ap (λ x. x ∷ u.queue) same, s.1)
+popped (Some j) w u i s n e = let same : j ≡ i = Some-same j i (sym (ap (λ l. slice_get l 0) s.0) ∙ e) in (s.0 ∙ ap (λ x. x ∷ u.queue) same, s.1)

@@ -5,11 +5,17 @@ use Rattle.std.specs.List.{filter}
 use Rattle.std.proofs.lemmas.Bool.{false≢true, cases_eq, cases_Bool, eq-eqb, ne_eqb}
 use Rattle.std.proofs.lemmas.List.{length-append}
 use Rattle.std.proofs.lemmas.List.Elements.{filter-append}
-use Rattle.slotted_theory.specs.FiniteMaps.{with_values}
+use Rattle.slotted_lists.proofs.Members.{In}
+use Rattle.slotted_lists.proofs.Booleans.{or-true as either}
+use Rattle.slotted_lists.proofs.Maps.{is_among-left, is_among-right}
+use Rattle.slotted_lists.proofs.Options.{some-or_none as told}
+use Rattle.slotted_lists.proofs.Lists.{length-map_names}
 use Rattle.slotted_slots.specs.Ascending.{AllAbove, IsAscending}
-use Rattle.slotted_slots.specs.Maps.{IsInEither, composed, is_among, keys, value_of, values, with_first, with_pair}
+use Rattle.slotted_slots.specs.Maps.{IsInEither, composed, is_among, keys, value_of, values, with_pair}
 use Rattle.slotted_slots.specs.Table.{KnowsMore, Table, TakesAtMost, is_known, slot_limit}
 use Rattle.slotted_slots.proofs.SlotsTaken.{at_most_beside, at_most_more, at_most_then, fresh_goes_on, lacks_beside, lacks_more, lacks_then}
+use Rattle.slotted_slots.proofs.FreshLaws.{is_among-composed}
+use Rattle.slotted_slots.proofs.MapLaws.{is_among-value_of}
 use Rattle.slotted_nodes.specs.Form.{Form, scopes, scope_end_of}
 use Rattle.slotted_nodes.specs.Public.{is_bound_by, is_no_binder, is_public}
 use Rattle.slotted_languages.specs.Children.{below, binders, is_binder}
@@ -18,10 +24,9 @@ use Rattle.slotted_languages.specs.NodeTerm.{free_names_of}
 use Rattle.slotted_languages.specs.Renaming.{HasName, IsEntered}
 use Rattle.slotted_languages.specs.Shape.{Fits, firsts, shape}
 use Rattle.slotted_languages.proofs.FirstPlaces.{number_met}
-use Rattle.slotted_languages.proofs.Members.{In}
 use Rattle.slotted_languages.proofs.Occurrences.{is_among-append, is_among-firsts}
 use Rattle.slotted_languages.proofs.PublicNames.{public_free}
-use Rattle.slotted_languages.proofs.Renamings.{Covers, Covers-at, IsRenaming, is_value, mapped_length, renaming_number, told}
+use Rattle.slotted_languages.proofs.Renamings.{Covers, Covers-at, IsRenaming, renaming_number}
 use Rattle.slotted_languages.proofs.Taken.{keyed}
 use Rattle.slotted_languages.proofs.TakenNames.{free_stands, value_put_or}
 
@@ -33,17 +38,6 @@ or_first : {b : Bool} (c : Bool) → b ≡ true → (b || c) ≡ true
 or_first {b = true} c e = refl
 or_first {b = false} c e = absurd (false≢true e)
 
-either : (b c : Bool) → (b || c) ≡ true → (b ≡ true) ⊎ (c ≡ true)
-either true c e = inl refl
-either false c e = inr e
-
--- members of two lists in a row
-pub among_left : (xs ys : List ℕ) (z : ℕ) → is_among z xs ≡ true → is_among z (xs ++ ys) ≡ true
-among_left xs ys z h = is_among-append z xs ys ∙ or_first (is_among z ys) h
-
-pub among_right : (xs ys : List ℕ) (z : ℕ) → is_among z ys ≡ true → is_among z (xs ++ ys) ≡ true
-among_right xs ys z h = is_among-append z xs ys ∙ or_last (is_among z xs) h
-
 pub among_either : (xs ys : List ℕ) (z : ℕ) → is_among z (xs ++ ys) ≡ true → (is_among z xs ≡ true) ⊎ (is_among z ys ≡ true)
 among_either xs ys z h = either (is_among z xs) (is_among z ys) (sym (is_among-append z xs ys) ∙ h)
 
@@ -52,9 +46,9 @@ fits_before t u more end = subst (λ k. t.fresh ≤ k) end (fresh_goes_on t u mo
 
 -- a name in use is at hand
 pub in_use_at_hand : (avoid : List ℕ) (names : List (ℕ × ℕ)) (f : Form) (z : ℕ) → IsInUse avoid (values names) f.names z → is_among z (at_hand avoid names f) ≡ true
-in_use_at_hand avoid names f z (inl q) = among_left avoid (values names ++ f.names) z q
-in_use_at_hand avoid names f z (inr (inl q)) = among_right avoid (values names ++ f.names) z (among_left (values names) f.names z q)
-in_use_at_hand avoid names f z (inr (inr q)) = among_right avoid (values names ++ f.names) z (among_right (values names) f.names z q)
+in_use_at_hand avoid names f z (inl q) = is_among-left avoid (values names ++ f.names) z q
+in_use_at_hand avoid names f z (inr (inl q)) = is_among-right avoid (values names ++ f.names) z (is_among-left (values names) f.names z q)
+in_use_at_hand avoid names f z (inr (inr q)) = is_among-right avoid (values names ++ f.names) z (is_among-right (values names) f.names z q)
 
 -- so beside these an unknown name at hand is one of them
 within : (t : Table) (avoid ys : List ℕ) (names : List (ℕ × ℕ)) (f : Form) → ValuesAreIn t ys names → ((z : ℕ) → is_among z avoid ≡ true → is_among z ys ≡ true) → ((z : ℕ) → is_among z f.names ≡ true → is_among z ys ≡ true) → (z : ℕ) → is_known t z ≡ false → is_among z (at_hand avoid names f) ≡ true → is_among z ys ≡ true
@@ -104,10 +98,10 @@ values_entered t u f avoid free old new i number name y more there targets e kno
     chosen missing =
         let c = e.chosen missing in
         elim (told (value_of free number)) [
-          | inl k ↦ inr (among_left avoid f.names y (ap (λ w. is_among w avoid) (c.free_name k.0 k.1) ∙ targets number k.0 k.1))
+          | inl k ↦ inr (is_among-left avoid f.names y (ap (λ w. is_among w avoid) (c.free_name k.0 k.1) ∙ targets number k.0 k.1))
           | inr none ↦ elim (cases_Bool (is_among name avoid)) [
             | inl a ↦ inl (c.known none a)
-            | inr a ↦ inr (among_right avoid f.names y (ap (λ w. is_among w f.names) (c.kept none a) ∙ there))
+            | inr a ↦ inr (is_among-right avoid f.names y (ap (λ w. is_among w f.names) (c.kept none a) ∙ there))
           ]
         ]
 
@@ -150,7 +144,7 @@ place_runs_out t u v f ys i n lt before needed out = elim (cases_Bool (is_binder
 ]
 
 -- at a place that is no binder the number has a name
-In-value : (m : List (ℕ × ℕ)) (n : ℕ) → In n (keys m) → IsSome (value_of m n)
+pub In-value : (m : List (ℕ × ℕ)) (n : ℕ) → In n (keys m) → IsSome (value_of m n)
 In-value [] n h = absurd h
 In-value (p ∷ m) n (inl e) = ap (λ b. is_some (cond b (Some p.1) (value_of m n))) (eq-eqb p.0 n (sym e))
 In-value (p ∷ m) n (inr h) = later (nat_eq p.0 n) (In-value m n h)
@@ -258,7 +252,7 @@ pub names_and_binders : (f : Form) (wanted : List ℕ) → Fits f → IsAscendin
 names_and_binders f wanted fits up same =
     let few = few_different wanted (free_names_of f) up (λ z q. sym (same z) ∙ q) in
     let public : length (free_names_of f) ≡ length (filter (is_public f) (below (length f.names))) =
-    ap (λ xs. length xs) (sym (public_free f fits)) ∙ mapped_length (slice_index f.names) (filter (is_public f) (below (length f.names))) in
+    ap (λ xs. length xs) (sym (public_free f fits)) ∙ length-map_names (slice_index f.names) (filter (is_public f) (below (length f.names))) in
     omega (arith, few, public, kinds_differ f (below (length f.names)), length_below (length f.names))
 
 -- there are no more binders than places
@@ -272,7 +266,7 @@ filled_values t u xs wanted m names ys up d old z h =
     elim (told (value_of m k.0)) [
       | inl v ↦
           let same : v.0 ≡ z = one_value (value_of names k.0) v.0 z (d.kept k.0 v.0 v.1) k.1 in
-          inr (old z (ap (λ w. is_among w (values m)) (sym same) ∙ is_value m k.0 v.0 v.1))
+          inr (old z (ap (λ w. is_among w (values m)) (sym same) ∙ is_among-value_of m k.0 v.0 v.1))
       | inr none ↦ inl (d.known k.0 z none k.1)
     ]
   where
@@ -307,23 +301,11 @@ values_then t u ys m n more first second z h = elim (second z h) [
 pub runs_out_from : (n : ℕ) (xs ys : List ℕ) (t u : Table) → KnowsMore t u → ((z : ℕ) → is_known t z ≡ false → is_among z xs ≡ true → is_among z ys ≡ true) → RunsOut n xs t u → RunsOut n ys t u
 runs_out_from n xs ys t u more inside out = (out.0, lacks_beside n xs ys t (fits_before t u more out.0) inside out.1)
 
--- the values after a composition are values of the second map
-composed_value : (l m : List (ℕ × ℕ)) (z : ℕ) → is_among z (values (composed l m)) ≡ true → is_among z (values m) ≡ true
-composed_value [] m z h = absurd (false≢true h)
-composed_value (p ∷ l) m z h = one (composed_value l m z) (value_of m p.1) refl h
-  where
-    one : (is_among z (values (composed l m)) ≡ true → is_among z (values m) ≡ true) → (o : Option ℕ) → value_of m p.1 ≡ o → is_among z (values (with_first p.0 o (composed l m))) ≡ true → is_among z (values m) ≡ true
-    one later None e k = later k
-    one later (Some v) e k = elim (cases_eq v z) [
-      | inl d ↦ ap (λ w. is_among w (values m)) (sym d) ∙ is_value m p.1 v e
-      | inr n ↦ later (sym (ap (λ b. b || is_among z (values (composed l m))) (ne_eqb v z n)) ∙ k)
-    ]
-
 -- what was avoided by a renaming is among the names at hand
 pub composed_within : (f : Form) (avoid : List ℕ) (free m names : List (ℕ × ℕ)) → ((z : ℕ) → is_among z avoid ≡ is_among z (values names)) → names ≡ composed free m → (z : ℕ) → is_among z (avoid ++ f.names) ≡ true → is_among z (values m ++ f.names) ≡ true
 composed_within f avoid free m names same e z h = elim (among_either avoid f.names z h) [
-  | inl q ↦ among_left (values m) f.names z (composed_value free m z (ap (λ l. is_among z (values l)) (sym e) ∙ (sym (same z) ∙ q)))
-  | inr q ↦ among_right (values m) f.names z q
+  | inl q ↦ is_among-left (values m) f.names z (is_among-composed free m z (ap (λ l. is_among z (values l)) (sym e) ∙ (sym (same z) ∙ q)))
+  | inr q ↦ is_among-right (values m) f.names z q
 ]
 
 -- and where free names and all names of the node were avoided, among those of the node
@@ -335,10 +317,6 @@ avoided_stands f before avoid free fits names members inside z h = elim (among_e
   ]
   | inr q ↦ q
 ]
-
-pub keys-with_values : (π : ℕ → ℕ) (m : List (ℕ × ℕ)) → keys (with_values π m) ≡ keys m
-keys-with_values π [] = refl
-keys-with_values π (p ∷ m) = ap (λ ks. p.0 ∷ ks) (keys-with_values π m)
 
 -- some names of a node, one slot for each
 module _ (t u : Table) (wanted : List ℕ) (names : List (ℕ × ℕ)) (f : Form) (none : names ≡ []) (up : IsAscending wanted) (own : KeepsAll wanted f.names) where
@@ -358,13 +336,13 @@ module _ (t u : Table) (wanted : List ℕ) (names : List (ℕ × ℕ)) (f : Form
 -- the free names that a map lacks, one slot for each, and then the binders
 module _ (t u : Table) (wanted : List ℕ) (m : List (ℕ × ℕ)) (f : Form) (fits : Fits f) (up : IsAscending wanted) (same : (x : ℕ) → is_among x wanted ≡ is_among x (free_names_of f)) where
   handed : ValuesAreIn t (values m ++ f.names) m
-  handed z h = inr (among_left (values m) f.names z h)
+  handed z h = inr (is_among-left (values m) f.names z h)
 
   wanted_stand : (z : ℕ) → is_among z wanted ≡ true → is_among z (values m ++ f.names) ≡ true
-  wanted_stand z h = among_right (values m) f.names z (free_stands f z fits (sym (same z) ∙ h))
+  wanted_stand z h = is_among-right (values m) f.names z (free_stands f z fits (sym (same z) ∙ h))
 
   first_takes : TakesAtMost (length wanted) (at_hand wanted m f) t u → TakesAtMost (length wanted) (values m ++ f.names) t u
-  first_takes taken = takes_beside (length wanted) t u wanted (values m ++ f.names) m f handed wanted_stand (among_right (values m) f.names) taken
+  first_takes taken = takes_beside (length wanted) t u wanted (values m ++ f.names) m f handed wanted_stand (is_among-right (values m) f.names) taken
 
   pub filling_takes : TakesAtMost (length wanted) (at_hand wanted m f) t u → TakesAtMost (length f.names) (values m ++ f.names) t u
   filling_takes taken = at_most_more (length wanted) (length f.names) (values m ++ f.names) t u (omega (arith, names_and_binders f wanted fits up same)) (first_takes taken)
@@ -372,16 +350,16 @@ module _ (t u : Table) (wanted : List ℕ) (m : List (ℕ × ℕ)) (f : Form) (f
   pub filling_runs_out : KnowsMore t u → RunsOut (length wanted) (at_hand wanted m f) t u → RunsOut (length f.names) (values m ++ f.names) t u
   filling_runs_out more out =
       runs_out_more (length wanted) (length f.names) (values m ++ f.names) t u (omega (arith, names_and_binders f wanted fits up same))
-      (runs_out_beside (length wanted) t u wanted (values m ++ f.names) m f more handed wanted_stand (among_right (values m) f.names) out)
+      (runs_out_beside (length wanted) t u wanted (values m ++ f.names) m f more handed wanted_stand (is_among-right (values m) f.names) out)
 
   module _ (v : Table) (names : List (ℕ × ℕ)) (ascending : IsAscending (keys names)) (d : IsFilled t u f.names wanted m names) (taken : TakesAtMost (length wanted) (at_hand wanted m f) t u) where
     inside : (z : ℕ) → is_known u z ≡ false → is_among z (values names ++ f.names) ≡ true → is_among z (values m ++ f.names) ≡ true
     inside z unknown h = elim (among_either (values names) f.names z h) [
-      | inl q ↦ elim (filled_values t u f.names wanted m names (values m ++ f.names) ascending d (among_left (values m) f.names) z q) [
+      | inl q ↦ elim (filled_values t u f.names wanted m names (values m ++ f.names) ascending d (is_among-left (values m) f.names) z q) [
         | inl k ↦ absurd (false≢true (sym unknown ∙ k))
         | inr k ↦ k
       ]
-      | inr q ↦ among_right (values m) f.names z q
+      | inr q ↦ is_among-right (values m) f.names z q
     ]
 
     pub filled_takes : TakesAtMost (binders f) (values names ++ f.names) u v → TakesAtMost (length f.names) (values m ++ f.names) t v

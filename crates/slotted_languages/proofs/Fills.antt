@@ -1,27 +1,31 @@
 -- Maps that get a fresh slot for each name that they lack, and nodes with such slots in the place of names.
 use Rattle.std.proofs.Common.{◌≡◌, ◌≢◌, ℕ, suc, ◌+◌, ◌<◌, List, [], ◌∷◌, ◌++◌, length, take, drop, Option, Some, None, sym, ◌∙◌, ap, refl, subst, inl, inr, arith, map, slice_index, add-one}
-use Rattle.std.specs.Prelude.{Bool, true, false, ◌⊎◌, ◌||◌, ◌&&◌, not, nat_eq, IsSome, unwrap_or, is_some, slice_index_or}
+use Rattle.std.specs.Prelude.{Bool, true, false, ◌||◌, ◌&&◌, not, nat_eq, IsSome, unwrap_or, is_some, slice_index_or}
 use Rattle.std.proofs.lemmas.Bool.{eq-eqb, ne_eqb, cases_eq, eqb-true, false≢true}
 use Rattle.std.proofs.lemmas.List.{map-append, length-take-le}
 use Rattle.std.proofs.lemmas.List.Elements.{All-nil, All-cons}
 use Rattle.std.proofs.Math.Seq.{take-suc}
 use Rattle.std.specs.Ordering.{nat_cmp}
+use Rattle.slotted_lists.proofs.Members.{In}
+use Rattle.slotted_lists.proofs.Booleans.{or-true}
+use Rattle.slotted_lists.proofs.Options.{some-or_none as told}
+use Rattle.slotted_lists.proofs.Lists.{length-map_names}
 use Rattle.slotted_theory.specs.FiniteMaps.{top, filled}
 use Rattle.slotted_theory.specs.Nameless.{moved}
 use Rattle.slotted_slots.specs.Maps.{value_of, with_pair, values, is_among, KnowsAll}
 use Rattle.slotted_slots.specs.Sets.{has, insert_key}
 use Rattle.slotted_slots.specs.Table.{Table, is_known, KnowsMore}
 use Rattle.slotted_slots.proofs.Ascending.{has-is_among, is_among-insert_key}
+use Rattle.slotted_slots.proofs.MapLaws.{is_among-value_of}
 use Rattle.slotted_nodes.specs.Form.{Form, with_name}
 use Rattle.slotted_languages.specs.Fresh.{IsFilled, IsRefreshed, IsRenamedFresh, replaced}
 use Rattle.slotted_languages.specs.NodeTerm.{nameless_node, free_names_of}
 use Rattle.slotted_languages.specs.Shape.{shape, with_names, Fits}
 use Rattle.slotted_languages.proofs.FilledFrom.{filled-walked}
-use Rattle.slotted_languages.proofs.Members.{In}
 use Rattle.slotted_languages.proofs.Numbered.{Knows}
 use Rattle.slotted_languages.proofs.Occurrences.{is_among-append, or_false}
 use Rattle.slotted_languages.proofs.RenamedNumbers.{IsApart, renamed_node}
-use Rattle.slotted_languages.proofs.Renamings.{told, is_value, is_some_of, some_of, value_of-filled, mapped_length, unknown_before}
+use Rattle.slotted_languages.proofs.Renamings.{is_some_of, some_of, value_of-filled, unknown_before}
 use Rattle.slotted_languages.proofs.Walks.{value_of-with_pair_same, value_of-with_pair_other}
 use Rattle.slotted_languages.proofs.WalkNames.{Named, names_of_shape}
 use Rattle.slotted_languages.proofs.WalkSteps.{place_written}
@@ -80,7 +84,7 @@ module _ (m : List (ℕ × ℕ)) (x y : ℕ) (missing : value_of m x ≡ None) w
     differ = λ z w v e f g. elim (cases_eq x w) [
       | inl d ↦ sym (is_new z v e f).0 ∙ d
       | inr n ↦
-          let there : is_among v (values m) ≡ true = is_value m w v (at_old w v n g) in
+          let there : is_among v (values m) ≡ true = is_among-value_of m w v (at_old w v n g) in
           absurd (false≢true (sym other ∙ (ap (λ u. is_among u (values m)) (is_new z v e f).1 ∙ there)))
     ];
   }
@@ -96,10 +100,6 @@ or_left false b e = absurd (false≢true e)
 or_right : (a b : Bool) → b ≡ true → (a || b) ≡ true
 or_right true b e = refl
 or_right false b e = e
-
-or_cases : (a b : Bool) → (a || b) ≡ true → (a ≡ true) ⊎ (b ≡ true)
-or_cases true b e = inl refl
-or_cases false b e = inr e
 
 module _ (t u v : Table) (xs ws : List ℕ) (w : ℕ) (m n o : List (ℕ × ℕ)) (more : KnowsMore t u) (grows : KnowsMore u v) (a : IsFilled t u xs ws m n) (b : IsFilled u v xs (w ∷ []) n o) where
   early : (x : ℕ) → is_among x ws ≡ true → is_among x (ws ++ w ∷ []) ≡ true
@@ -119,7 +119,7 @@ module _ (t u v : Table) (xs ws : List ℕ) (w : ℕ) (m n o : List (ℕ × ℕ)
   pub more_filled : IsFilled t v xs (ws ++ w ∷ []) m o
   more_filled = record {
     kept = λ x y e. b.kept x y (a.kept x y e);
-    has = λ x e. elim (or_cases (is_among x ws) (is_among x (w ∷ [])) (sym (is_among-append x ws (w ∷ [])) ∙ e)) [
+    has = λ x e. elim (or-true (is_among x ws) (is_among x (w ∷ [])) (sym (is_among-append x ws (w ∷ [])) ∙ e)) [
       | inl q ↦ let z = some_of (value_of n x) (a.has x q) in is_some_of (value_of o x) z.0 (b.kept x z.0 z.1)
       | inr q ↦ b.has x q
     ];
@@ -171,7 +171,7 @@ renamed_fresh t u m names wanted f g d same e = record {
 pub one_replaced : (f h k : Form) (m : List (ℕ × ℕ)) (i x y : ℕ) → i < length f.names → h ≡ with_names f (map (replaced m) (take i f.names) ++ drop i f.names) → x ≡ slice_index f.names i → y ≡ replaced m x → k ≡ with_name h i y → k ≡ with_names f (map (replaced m) (take (i + 1) f.names) ++ drop (i + 1) f.names)
 one_replaced f h k m i x y lt e ex ey ek =
     let ps = map (replaced m) (take i f.names) in
-    let li : length ps ≡ i = mapped_length (replaced m) (take i f.names) ∙ length-take-le i f.names (omega (arith, lt)) in
+    let li : length ps ≡ i = length-map_names (replaced m) (take i f.names) ∙ length-take-le i f.names (omega (arith, lt)) in
     let more : map (replaced m) (take (suc i) f.names) ≡ ps ++ y ∷ [] =
     ap (map (replaced m)) (take-suc f.names i 0 lt) ∙ (map-append (replaced m) (take i f.names) (slice_index f.names i ∷ []) ∙ ap (λ z. ps ++ z ∷ []) (sym (ey ∙ ap (replaced m) ex))) in
     rw (add-one i) (ek ∙ (ap (λ g. with_name g i y) e ∙ ap (with_names f) (place_written ps f.names i y li lt ∙ ap (λ zs. zs ++ drop (suc i) f.names) (sym more))))

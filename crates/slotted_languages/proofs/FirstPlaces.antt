@@ -1,14 +1,14 @@
 -- At a place that is no binder stands the number of a free name, or one that stood before.
 use Rattle.std.proofs.Common.{◌≡◌, ℕ, zero, suc, ◌+◌, ◌<◌, List, [], ◌∷◌, ◌++◌, length, take, drop, Option, Some, None, sym, ap, refl, subst, inl, inr, arith, slice_index}
 use Rattle.std.specs.Prelude.{Bool, true, false, ◌⊎◌, ◌&&◌, nat_eq, nat_lt, cond, slice_index_or}
-use Rattle.std.proofs.lemmas.List.{map-append}
+use Rattle.slotted_lists.proofs.Members.{In, In-left, In-right}
+use Rattle.slotted_lists.proofs.Maps.{keys-push}
 use Rattle.slotted_slots.specs.Maps.{keys}
 use Rattle.slotted_slots.specs.Table.{numeric_slot}
 use Rattle.slotted_nodes.specs.Form.{Form, scopes, scope_end_of, end_at}
 use Rattle.slotted_languages.specs.declared.shape.Binder.{Binder}
 use Rattle.slotted_languages.specs.Shape.{Fits, free_number, number_of, shape}
 use Rattle.slotted_languages.specs.Walk.{Walk, bound_number, numbers, start, walk, walk_at, walk_own}
-use Rattle.slotted_languages.proofs.Members.{In, In-left, In-right}
 use Rattle.slotted_languages.proofs.WalkShapes.{walk-shape}
 
 abbrev binder_numbers : List Binder → List ℕ
@@ -35,7 +35,7 @@ bound_in (b ∷ bs) x i n o e = elim (bound_in bs x i n (cond (nat_eq b.name x &
     pick true q = let k : n ≡ b.number = cc in inr (inl k)
     pick false q = inl q
 
-free_in : (m : List (ℕ × ℕ)) (x n : ℕ) → number_of m x ≡ Some n → In n (keys m)
+pub free_in : (m : List (ℕ × ℕ)) (x n : ℕ) → number_of m x ≡ Some n → In n (keys m)
 free_in [] x n e = cc
 free_in (p ∷ m) x n e = pick (nat_eq p.1 x) (free_in m x n) e
   where
@@ -43,13 +43,9 @@ free_in (p ∷ m) x n e = pick (nat_eq p.1 x) (free_in m x n) e
     pick true f q = let k : n ≡ p.0 = cc in inl k
     pick false f q = inr (f q)
 
--- the numbers of free names stay
-keys_last : (m : List (ℕ × ℕ)) (p : ℕ × ℕ) → keys (m ++ p ∷ []) ≡ keys m ++ p.0 ∷ []
-keys_last m p = map-append (λ q. q.0) m (p ∷ [])
-
 keys_free : (o : Option ℕ) (w : Walk) (x n : ℕ) → In n (keys w.free) → In n (keys (free_number o (numbers w) x).1.free)
 keys_free (Some k) w x n h = h
-keys_free None w x n h = subst (In n) (sym (keys_last w.free (numeric_slot w.next, x))) (In-left n (keys w.free) (numeric_slot w.next ∷ []) h)
+keys_free None w x n h = subst (In n) (sym (keys-push w.free (numeric_slot w.next, x))) (In-left n (keys w.free) (numeric_slot w.next ∷ []) h)
 
 keys_own : (o : Option ℕ) (w : Walk) (x n : ℕ) → In n (keys w.free) → In n (keys (walk_own o w x).1.free)
 keys_own (Some k) w x n h = h
@@ -67,7 +63,7 @@ keys_walk (o ∷ ss) xs i n w h =
 -- what a place gets that is no binder
 free_named : (o : Option ℕ) (w : Walk) (x : ℕ) → number_of w.free x ≡ o → In (free_number o (numbers w) x).0 (keys (free_number o (numbers w) x).1.free)
 free_named (Some k) w x e = free_in w.free x k e
-free_named None w x e = subst (In (numeric_slot w.next)) (sym (keys_last w.free (numeric_slot w.next, x))) (In-right (numeric_slot w.next) (keys w.free) (numeric_slot w.next ∷ []) (inl refl))
+free_named None w x e = subst (In (numeric_slot w.next)) (sym (keys-push w.free (numeric_slot w.next, x))) (In-right (numeric_slot w.next) (keys w.free) (numeric_slot w.next ∷ []) (inl refl))
 
 own_named : (o : Option ℕ) (w : Walk) (x i : ℕ) → bound_number w.binders x i None ≡ o → In (walk_own o w x).0 (keys (walk_own o w x).1.free) ⊎ In (walk_own o w x).0 (binder_numbers w.binders)
 own_named (Some n) w x i e = elim (bound_in w.binders x i n None e) [

@@ -3,6 +3,8 @@ use Rattle.std.proofs.Common.{◌≡◌, ℕ, zero, suc, ◌<◌, ◌≤◌, Lis
 use Rattle.std.specs.Prelude.{Bool, true, false, ◌⊎◌, ◌||◌, ◌&&◌, not, nat_eq, nat_lt, cond}
 use Rattle.std.specs.List.{filter}
 use Rattle.std.proofs.lemmas.Bool.{false≢true, cases_eq, cases_lt, eq-eqb, ne_eqb, le-ltb}
+use Rattle.slotted_lists.proofs.Lists.{length-map_names}
+use Rattle.slotted_lists.proofs.Maps.{values-with_values}
 use Rattle.slotted_theory.specs.FiniteMaps.{with_values}
 use Rattle.slotted_theory.specs.Nameless.{DTerm, moved}
 use Rattle.slotted_theory.specs.Shape.{free_names}
@@ -18,9 +20,9 @@ use Rattle.slotted_languages.specs.Renaming.{IsRenamed}
 use Rattle.slotted_languages.specs.Shape.{Fits, firsts, with_names}
 use Rattle.slotted_languages.proofs.Occurrences.{is_among-append, is_among-firsts}
 use Rattle.slotted_languages.proofs.PublicNames.{public_free}
-use Rattle.slotted_languages.proofs.Renamings.{among_index, map_index, mapped_length}
+use Rattle.slotted_languages.proofs.Renamings.{among_index, map_index}
 use Rattle.slotted_languages.proofs.Taken.{among_map}
-use Rattle.slotted_languages.proofs.TakenNames.{among_of_map, values-moved}
+use Rattle.slotted_languages.proofs.TakenNames.{among_of_map}
 
 neither : (b c d : Bool) → (b ≡ false) ⊎ (c ≡ false) → d ≡ false → ((b && c) || d) ≡ false
 neither false c d e h = h
@@ -100,12 +102,12 @@ free_is_value f g π free names ef en e z h =
     let same : free_names_of g ≡ map π (free_names_of f) = ap (λ (t : DTerm). free_names t.args) e ∙ free_names-moved π (nameless_node f).args in
     let r = among_of_map π (free_names_of f) z (ap (is_among z) (sym same) ∙ h) in
     let here : is_among r.0 (values free) ≡ true = ap (is_among r.0) ef ∙ (is_among-firsts r.0 (free_names_of f) ∙ r.1) in
-    ap (is_among z) (ap values en ∙ values-moved π free) ∙ (ap (λ w. is_among w (map π (values free))) (sym r.2) ∙ among_map π (values free) r.0 here)
+    ap (is_among z) (ap values en ∙ values-with_values π free) ∙ (ap (λ w. is_among w (map π (values free))) (sym r.2) ∙ among_map π (values free) r.0 here)
 
 -- where names are replaced so that different ones stay different, no free name becomes that of a binder
 pub none_meets_still : (t : Table) (chosen : ℕ → Bool) (f g : Form) → IsRefreshed t chosen f g → NoneFreeAndBound f → NoneFreeAndBound g
 none_meets_still t chosen f g r clear i lt p b =
-    let l : length g.names ≡ length f.names = ap (λ (h : Form). length h.names) r.places ∙ mapped_length r.by f.names in
+    let l : length g.names ≡ length f.names = ap (λ (h : Form). length h.names) r.places ∙ length-map_names r.by f.names in
     let at : (j : ℕ) → j < length f.names → slice_index g.names j ≡ r.by (slice_index f.names j) = λ j lj. ap (λ (h : Form). slice_index h.names j) r.places ∙ map_index r.by f.names j lj in
     let li : i < length f.names = omega (arith, lt, l) in
     let lb : b.place < length f.names = omega (arith, b.within, l) in

@@ -3,9 +3,10 @@ use Rattle.std.proofs.Common.{◌≡◌, ◌≢◌, ℕ, zero, suc, ◌+◌, ◌
 use Rattle.std.specs.Prelude.{cond, nat_eq, Bool, true, false, ◌||◌}
 use Rattle.std.proofs.lemmas.Bool.{eq-eqb, ne_eqb, cases_eq, false≢true}
 use Rattle.std.proofs.lemmas.List.{map-append}
+use Rattle.slotted_lists.proofs.Maps.{HasValue-is_among}
 use Rattle.slotted_theory.specs.Nameless.{DArgs, stop, place, sub, scope}
 use Rattle.slotted_theory.specs.Shape.{outside, free_names}
-use Rattle.slotted_theory.specs.FiniteMaps.{HasValue, IsInjectiveMap}
+use Rattle.slotted_theory.specs.FiniteMaps.{IsInjectiveMap}
 use Rattle.slotted_slots.specs.Maps.{keys, values, is_among}
 use Rattle.slotted_slots.specs.Ascending.{AllAbove, IsAscending}
 use Rattle.slotted_slots.specs.Table.{numeric_slot}
@@ -111,17 +112,9 @@ added-different vs (x ∷ xs) d = added-different (cond (is_among x vs) vs (vs +
 pub firsts-different : (xs : List ℕ) → AreDifferent (firsts xs)
 firsts-different xs = added-different [] xs tt
 
-has-value : (m : List (ℕ × ℕ)) (v : ℕ) → HasValue m v → is_among v (values m) ≡ true
-has-value [] v h = absurd h
-has-value (p ∷ m) v (inl e) = ap (λ b. b || is_among v (values m)) (eq-eqb p.1 v (sym e))
-has-value (p ∷ m) v (inr h) = elim (cases_eq p.1 v) [
-  | inl e ↦ ap (λ b. b || is_among v (values m)) (eq-eqb p.1 v e)
-  | inr n ↦ ap (λ b. b || is_among v (values m)) (ne_eqb p.1 v n) ∙ has-value m v h
-]
-
 pub different-injective : (m : List (ℕ × ℕ)) → AreDifferent (values m) → IsInjectiveMap m
 different-injective [] d = tt
-different-injective (p ∷ m) d = (λ h. false≢true (sym d.0 ∙ has-value m p.1 h), different-injective m d.1)
+different-injective (p ∷ m) d = (λ h. false≢true (sym d.0 ∙ HasValue-is_among m p.1 h), different-injective m d.1)
 
 AllAbove-more : (k x : ℕ) (xs : List ℕ) → k < x → AllAbove k xs → AllAbove k (xs ++ x ∷ [])
 AllAbove-more k x [] l h = (l, tt)

@@ -1,10 +1,10 @@
 -- What a call promises where it hands on a refusal, and what it knows of a node that an earlier call took.
-use Rattle.std.proofs.Common.{◌≡◌, ◌∙◌, ◌↔◌, ℕ, List, length, Result, Ok, Err, IfErr, IsErrOf, ap, refl, sym, subst, inl, inr, arith}
-use Rattle.std.specs.Prelude.{Bool, true, false, ◌&&◌, IsErrAnd, is_ok}
+use Rattle.std.proofs.Common.{◌≡◌, ◌∙◌, ◌↔◌, ℕ, List, length, Result, Ok, Err, IfErr, IsErrOf, ap, refl, sym, subst, inl, inr, arith, ◌≢◌, ◌⊎◌}
+use Rattle.std.specs.Prelude.{Bool, true, false, ◌&&◌, IsErrAnd, is_ok, IsTrue}
 use Rattle.std.proofs.lemmas.Bool.{cases_lt, false≢true}
 use Rattle.std.proofs.lemmas.Result.{err_from_is_err_and}
 use Rattle.slotted_slots.specs.declared.error.Error.{Error}
-use Rattle.slotted_slots.specs.declared.error.Error.TheVariants.{OutOfSlots}
+use Rattle.slotted_slots.specs.declared.error.Error.TheVariants.{OutOfSlots, Failed}
 use Rattle.slotted_slots.specs.Error.{IsOutOfMemory, IsShortage, number_of}
 use Rattle.slotted_slots.specs.Table.{Table, TakesAtMost, slot_limit}
 use Rattle.slotted_nodes.specs.Form.{Form, IsSmall}
@@ -70,3 +70,19 @@ memory_only (Ok x) m is = not_refused x is
 memory_only (Err e) m is =
     let same : 1 ≡ 2 = ap number_of (sym m ∙ ap (error_or e) is) in
     absurd (omega (arith, same))
+
+-- where an answer was given the graph had not failed, and where it had not, a refusal is another one
+pub answered-well : {A : Type 0} (b : Bool) (x : A) → (IsErrOf {T = A} {E = Error} (Ok x) Failed ↔ IsTrue b) → b ≡ false
+answered-well true x failed = not_refused x (failed.1 refl)
+answered-well false x failed = refl
+
+pub other-refusal : {A P : Type 0} (b : Bool) (e : Error) → b ≡ false → (IsErrOf {T = A} (Err e) Failed ↔ IsTrue b) → (e ≡ Failed) ⊎ P → P
+other-refusal b e well failed (inl is) = absurd (false≢true (sym well ∙ failed.0 (ap Err is)))
+other-refusal b e well failed (inr p) = p
+
+-- what may be refused of a run, and of an extraction, of a graph that has not failed
+pub run-refused : {P : Type 0} (e : Error) → IsShortage e ⊎ (P ⊎ (⊥ ⊎ ⊥)) → IsShortage e ⊎ P
+run-refused e (inl short) = inl short
+run-refused e (inr (inl p)) = inr p
+run-refused e (inr (inr (inl none))) = absurd none
+run-refused e (inr (inr (inr none))) = absurd none

@@ -1,6 +1,5 @@
 -- Lemmas on outlines, shapes, walks over places, and renaming.
 pub mod Outlines
-pub mod Members
 pub mod FilledFrom
 pub mod Numbered
 pub mod MovedNumbers

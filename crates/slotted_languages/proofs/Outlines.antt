@@ -1,10 +1,11 @@
 -- Outlines: they have the node's term, they are reached child by child, and skeletons are equal where outlines are.
-use Rattle.std.proofs.Common.{◌≡◌, ℕ, suc, zero, ◌+◌, ◌-◌, ◌<◌, ◌≤◌, List, [], ◌∷◌, ◌++◌, length, take, drop, replicate, refl, slice_index, slice_set, ap, ◌∙◌, sym, append_assoc, arith, length-append, length-drop, length-take, zero-add, add-one, inl, inr}
+use Rattle.std.proofs.Common.{◌≡◌, ℕ, suc, zero, ◌+◌, ◌-◌, ◌<◌, ◌≤◌, List, [], ◌∷◌, ◌++◌, length, take, drop, replicate, refl, slice_index, slice_set, ap, ◌∙◌, sym, append_assoc, arith, length-append, length-drop, zero-add, add-one, inl, inr}
 use Rattle.std.specs.Prelude.{min, Option, None, map}
 use Rattle.std.proofs.lemmas.Grind.{common_steps}
 use Rattle.std.proofs.lemmas.List.{length-map, take_at, drop_at, take-append-drop, drop_more, set_at, length-replicate, replicate_more}
 use Rattle.std.proofs.lemmas.Bool.{cases_lt}
 use Rattle.std.proofs.Math.Nat.{sub-zero}
+use Rattle.slotted_lists.proofs.Lists.{first-and_rest, length-parts}
 use Rattle.slotted_theory.specs.Term.{Term}
 use Rattle.slotted_theory.specs.Term.{bind as under, child as sub, name}
 use Rattle.slotted_nodes.specs.Form.{Form, Tree, leaf, own, child, bind, scopes, children, with_name, with_child, bind_form, join_form}
@@ -86,27 +87,18 @@ outlined_first-none (child i ks r) zero e = refl
 outlined_first-none (child i ks r) (suc k) e = absurd (omega arith)
 outlined_first-none (bind u r) k e = λ i. bind (outlined_first-none u k e i) (outlined_first-none r (k - length (children u)) (omega arith) i)
 
--- a list with a first name, and the names below a binder
-first_name : (xs : List ℕ) (n : ℕ) → length xs ≡ suc n → slice_index xs 0 ∷ drop 1 xs ≡ xs
-first_name [] n h = absurd (omega arith)
-first_name (x ∷ xs) n h = refl
-
-length_below : (xs : List ℕ) (n m : ℕ) → length xs ≡ suc (n + m) → (length (take n (drop 1 xs)) ≡ n) × (length (drop n (drop 1 xs)) ≡ m)
-length_below xs n m h =
-    (omega (arith, length-take n (drop 1 xs), length-drop 1 xs), omega (arith, length-drop n (drop 1 xs), length-drop 1 xs))
-
 names_first-none : (v : ℕ) (u : Tree) (k : ℕ) (xs : List ℕ) → k ≡ 0 → length xs ≡ length (scopes u) → names_first v u k xs ≡ xs
 names_first-none v leaf k xs e h = refl
 names_first-none v (own r) k xs e h =
-    ap (λ ys. slice_index xs 0 ∷ ys) (names_first-none v r k (drop 1 xs) e (omega (arith, length-drop 1 xs))) ∙ first_name xs (length (scopes r)) h
+    ap (λ ys. slice_index xs 0 ∷ ys) (names_first-none v r k (drop 1 xs) e (omega (arith, length-drop 1 xs))) ∙ first-and_rest xs (length (scopes r)) h
 names_first-none v (child i ks r) zero xs e h = refl
 names_first-none v (child i ks r) (suc k) xs e h = absurd (omega arith)
 names_first-none v (bind u r) k xs e h =
     let n = length (scopes u) in
     let f : length xs ≡ suc (n + length (scopes r)) = omega (arith, length-append (scopes u) (scopes r)) in
-    let l = length_below xs n (length (scopes r)) f in
+    let l = length-parts xs n (length (scopes r)) f in
     (λ i. slice_index xs 0 ∷ names_first-none v u k (take n (drop 1 xs)) e l.0 i ++ names_first-none v r (k - length (children u)) (drop n (drop 1 xs)) (omega arith) l.1 i)
-    ∙ (ap (λ ys. slice_index xs 0 ∷ ys) (take-append-drop n (drop 1 xs)) ∙ first_name xs (n + length (scopes r)) f)
+    ∙ (ap (λ ys. slice_index xs 0 ∷ ys) (take-append-drop n (drop 1 xs)) ∙ first-and_rest xs (n + length (scopes r)) f)
 
 pub length_children-outlined_first : (u : Tree) (k : ℕ) → length (children (outlined_first u k)) ≡ length (children u)
 length_children-outlined_first leaf k = refl
@@ -127,7 +119,7 @@ names_first-fits v (bind u r) k xs h =
     let n = length (scopes u) in
     let m = k - length (children u) in
     let f : length xs ≡ suc (n + length (scopes r)) = omega (arith, length-append (scopes u) (scopes r)) in
-    let l = length_below xs n (length (scopes r)) f in
+    let l = length-parts xs n (length (scopes r)) f in
     let us = names_first v u k (take n (drop 1 xs)) in
     let rs = names_first v r m (drop n (drop 1 xs)) in
     omega (arith, length-append us rs, length-append (scopes (outlined_first u k)) (scopes (outlined_first r m)), names_first-fits v u k (take n (drop 1 xs)) l.0, names_first-fits v r m (drop n (drop 1 xs)) l.1)
@@ -152,7 +144,7 @@ names_first-all v (child i ks r) (suc k) xs h e =
 names_first-all v (bind u r) k xs h e =
     let n = length (scopes u) in
     let f : length xs ≡ suc (n + length (scopes r)) = omega (arith, length-append (scopes u) (scopes r)) in
-    let l = length_below xs n (length (scopes r)) f in
+    let l = length-parts xs n (length (scopes r)) f in
     let c = length-append (children u) (children r) in
     λ i. slice_index xs 0 ∷ names_first-all v u k (take n (drop 1 xs)) (omega arith) l.0 i ++ names_first-all v r (k - length (children u)) (drop n (drop 1 xs)) (omega arith) l.1 i
 
@@ -160,7 +152,7 @@ names_first-all v (bind u r) k xs h e =
 part : Tree → List ℕ → Form
 part t xs = record { operator = 0; payloads = []; tree = t; names = xs }
 
-below_binder : (x : ℕ) (f : Form) (k j : ℕ) (ls xs : List ℕ) → k < length (children f.tree) → with_child (bind_form x f) k j ls xs ≡ bind_form x (with_child f k j ls xs)
+pub below_binder : (x : ℕ) (f : Form) (k j : ℕ) (ls xs : List ℕ) → k < length (children f.tree) → with_child (bind_form x f) k j ls xs ≡ bind_form x (with_child f k j ls xs)
 below_binder x f k j ls xs h = grind (arith, common_steps)
 
 -- one more child
@@ -188,7 +180,7 @@ step v (bind u r) k xs h e =
     let n = length (scopes u) in
     let m = k - length (children u) in
     let w : length xs ≡ suc (n + length (scopes r)) = omega (arith, length-append (scopes u) (scopes r)) in
-    let l = length_below xs n (length (scopes r)) w in
+    let l = length-parts xs n (length (scopes r)) w in
     let a = part (outlined_first u k) (names_first v u k (take n (drop 1 xs))) in
     let f = bind_form (slice_index xs 0) a in
     let g = part (outlined_first r m) (names_first v r m (drop n (drop 1 xs))) in

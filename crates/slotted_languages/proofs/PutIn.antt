@@ -3,11 +3,14 @@ use Rattle.std.proofs.Common.{◌≡◌, ℕ, zero, suc, ◌<◌, List, [], ◌�
 use Rattle.std.specs.Prelude.{Option, true, ◌||◌, All, IsTrue, unwrap_or}
 use Rattle.std.proofs.lemmas.Bool.{cases_eq, ne_eqb}
 use Rattle.std.proofs.lemmas.List.Elements.{All-head, All-tail, All-nil, All-cons}
+use Rattle.slotted_lists.proofs.Options.{some-or_none as told}
+use Rattle.slotted_lists.proofs.Lists.{length-map_names}
 use Rattle.slotted_theory.specs.FiniteMaps.{filled}
 use Rattle.slotted_slots.specs.Ascending.{IsAscending}
 use Rattle.slotted_slots.specs.Maps.{KnowsAll, is_among, keys, value_of, values}
 use Rattle.slotted_slots.specs.Table.{KnowsMore, Table, is_known}
 use Rattle.slotted_slots.proofs.TableLaws.{is_known-numeric_slot}
+use Rattle.slotted_slots.proofs.MapLaws.{is_among-value_of}
 use Rattle.slotted_nodes.specs.Form.{Form}
 use Rattle.slotted_languages.specs.Fresh.{IsFilled, replaced}
 use Rattle.slotted_languages.specs.NewNames.{PutsIn}
@@ -16,7 +19,7 @@ use Rattle.slotted_languages.specs.Renaming.{IsRenamed}
 use Rattle.slotted_languages.specs.Shape.{Fits, with_names}
 use Rattle.slotted_languages.proofs.Fills.{filled_at}
 use Rattle.slotted_languages.proofs.FreeAndBound.{as_many_places}
-use Rattle.slotted_languages.proofs.Renamings.{Has-among, Has-from, is_value, map_index, mapped_length, told}
+use Rattle.slotted_languages.proofs.Renamings.{Has-among, Has-from, map_index}
 use Rattle.slotted_languages.proofs.Taken.{keyed}
 
 -- a node whose free names were renamed by a map that knows them
@@ -28,7 +31,7 @@ renamed_put t u m f avoid g ff fg knows r j lt =
       | inr (inl q) ↦ inr (inl q)
       | inr (inr q) ↦
           let v = Has-among m (free_names_of f) x (Has-from m (free_names_of f) knows) q.0 in
-          inr (inr (ap (λ y. is_among y (values m)) (q.1 ∙ filled_at m x v.0 v.1) ∙ is_value m x v.0 v.1))
+          inr (inr (ap (λ y. is_among y (values m)) (q.1 ∙ filled_at m x v.0 v.1) ∙ is_among-value_of m x v.0 v.1))
     ]
 
 -- and one whose free names stay
@@ -51,7 +54,7 @@ filled_put t u v xs wanted m names f g up d more put j lt = elim (put j lt) [
       elim (told (value_of m k.0)) [
         | inl z ↦
             let same : z.0 ≡ y = one_value (value_of names k.0) z.0 y (d.kept k.0 z.0 z.1) k.1 in
-            inr (inr (ap (λ w. is_among w (values m)) (sym same) ∙ is_value m k.0 z.0 z.1))
+            inr (inr (ap (λ w. is_among w (values m)) (sym same) ∙ is_among-value_of m k.0 z.0 z.1))
         | inr none ↦ inr (inl (more y (d.known k.0 y none k.1)))
       ]
 ]
@@ -63,7 +66,7 @@ filled_put t u v xs wanted m names f g up d more put j lt = elim (put j lt) [
 pub replaced_put : (t u : Table) (wanted : List ℕ) (names : List (ℕ × ℕ)) (f g : Form) → IsFilled t u f.names wanted [] names → g ≡ with_names f (map (replaced names) f.names) → PutsIn u [] f g
 replaced_put t u wanted names f g d put j lt =
     let x = slice_index f.names j in
-    let l : length g.names ≡ length f.names = ap (λ (h : Form). length h.names) put ∙ mapped_length (replaced names) f.names in
+    let l : length g.names ≡ length f.names = ap (λ (h : Form). length h.names) put ∙ length-map_names (replaced names) f.names in
     let at : slice_index g.names j ≡ replaced names x = ap (λ (h : Form). slice_index h.names j) put ∙ map_index (replaced names) f.names j (omega (arith, lt, l)) in
     elim (told (value_of names x)) [
       | inl z ↦ inr (inl (ap (is_known u) (at ∙ ap (λ o. unwrap_or o x) z.1) ∙ d.known x z.0 refl z.1))

@@ -1,12 +1,13 @@
 -- Other names for numbers: where a binder's new name meets another one only if the old names met, nothing is captured.
-use Rattle.std.proofs.Common.{◌≡◌, ◌≢◌, ℕ, zero, suc, ◌<◌, List, [], ◌∷◌, length, take, drop, sym, ◌∙◌, ap, refl, inl, inr, arith, map, slice_index}
+use Rattle.std.proofs.Common.{◌≡◌, ◌≢◌, ℕ, suc, ◌<◌, List, [], ◌∷◌, length, take, drop, sym, ◌∙◌, ap, refl, inl, inr, arith, map, slice_index}
 use Rattle.std.proofs.lemmas.Bool.{cases_eq}
 use Rattle.std.proofs.Math.Nat.{suc-ne-zero, suc_inj}
+use Rattle.slotted_lists.proofs.Members.{In, In-left, In-right}
+use Rattle.slotted_lists.proofs.Lists.{drop-map, take-map}
 use Rattle.slotted_theory.specs.Term.{Args, done, name, child, bind}
 use Rattle.slotted_theory.specs.Nameless.{DArgs, stop, place, sub, scope, extend, nameless_args, moved_args, moved}
 use Rattle.slotted_theory.specs.Renaming.{renamed_args}
 use Rattle.slotted_theory.proofs.Names.{extend-same, extend-other}
-use Rattle.slotted_languages.proofs.Members.{In, In-left, In-right}
 use Rattle.slotted_slots.specs.Table.{numeric_slot}
 use Rattle.slotted_nodes.specs.Form.{Form, Tree, leaf, own, scopes}
 use Rattle.slotted_nodes.specs.Form.{child as id, bind as binder}
@@ -96,32 +97,22 @@ map_first : (σ : ℕ → ℕ) (xs : List ℕ) → 0 < length xs → slice_index
 map_first σ [] h = absurd (omega (arith, h))
 map_first σ (x ∷ xs) h = refl
 
-map_drop : (σ : ℕ → ℕ) (n : ℕ) (xs : List ℕ) → drop n (map σ xs) ≡ map σ (drop n xs)
-map_drop σ zero xs = refl
-map_drop σ (suc n) [] = refl
-map_drop σ (suc n) (x ∷ xs) = map_drop σ n xs
-
-map_take : (σ : ℕ → ℕ) (n : ℕ) (xs : List ℕ) → take n (map σ xs) ≡ map σ (take n xs)
-map_take σ zero xs = refl
-map_take σ (suc n) [] = refl
-map_take σ (suc n) (x ∷ xs) = ap (λ l. σ x ∷ l) (map_take σ n xs)
-
-own_names-map : (σ : ℕ → ℕ) (xs : List ℕ) → own_names (map σ xs) ≡ renamed_args σ (own_names xs)
+pub own_names-map : (σ : ℕ → ℕ) (xs : List ℕ) → own_names (map σ xs) ≡ renamed_args σ (own_names xs)
 own_names-map σ [] = refl
 own_names-map σ (x ∷ xs) = ap (name (σ x)) (own_names-map σ xs)
 
-node_args-map : (σ : ℕ → ℕ) (t : Tree) (xs : List ℕ) → length xs ≡ length (scopes t) → node_args t (map σ xs) ≡ renamed_args σ (node_args t xs)
+pub node_args-map : (σ : ℕ → ℕ) (t : Tree) (xs : List ℕ) → length xs ≡ length (scopes t) → node_args t (map σ xs) ≡ renamed_args σ (node_args t xs)
 node_args-map σ leaf xs h = refl
 node_args-map σ (own r) xs h =
-    λ i. name (map_first σ xs (omega (arith, h)) i) ((ap (node_args r) (map_drop σ 1 xs) ∙ node_args-map σ r (drop 1 xs) (own_fits r xs h)) i)
+    λ i. name (map_first σ xs (omega (arith, h)) i) ((ap (node_args r) (drop-map σ 1 xs) ∙ node_args-map σ r (drop 1 xs) (own_fits r xs h)) i)
 node_args-map σ (id c ks r) xs h =
-    λ i. child 0 ((c ∷ ks) ∷ []) ((ap own_names (map_take σ (length ks) xs) ∙ own_names-map σ (take (length ks) xs)) i)
-    ((ap (node_args r) (map_drop σ (length ks) xs) ∙ node_args-map σ r (drop (length ks) xs) (child_rest_fits c ks r xs h)) i)
+    λ i. child 0 ((c ∷ ks) ∷ []) ((ap own_names (take-map σ (length ks) xs) ∙ own_names-map σ (take (length ks) xs)) i)
+    ((ap (node_args r) (drop-map σ (length ks) xs) ∙ node_args-map σ r (drop (length ks) xs) (child_rest_fits c ks r xs h)) i)
 node_args-map σ (binder u r) xs h =
     let n = length (scopes u) in
     λ i. bind (map_first σ xs (omega (arith, h)) i)
-    ((ap (λ ys. node_args u (take n ys)) (map_drop σ 1 xs) ∙ (ap (node_args u) (map_take σ n (drop 1 xs)) ∙ node_args-map σ u (take n (drop 1 xs)) (bind_inner_fits u r xs h))) i)
-    ((ap (λ ys. node_args r (drop n ys)) (map_drop σ 1 xs) ∙ (ap (node_args r) (map_drop σ n (drop 1 xs)) ∙ node_args-map σ r (drop n (drop 1 xs)) (bind_rest_fits u r xs h))) i)
+    ((ap (λ ys. node_args u (take n ys)) (drop-map σ 1 xs) ∙ (ap (node_args u) (take-map σ n (drop 1 xs)) ∙ node_args-map σ u (take n (drop 1 xs)) (bind_inner_fits u r xs h))) i)
+    ((ap (λ ys. node_args r (drop n ys)) (drop-map σ 1 xs) ∙ (ap (node_args r) (drop-map σ n (drop 1 xs)) ∙ node_args-map σ r (drop n (drop 1 xs)) (bind_rest_fits u r xs h))) i)
 
 names_from : (P : ℕ → Type 0) (s : Args) → ((n : ℕ) → In n (names_in s) → P n) → AllNames P s
 names_from P done h = tt

@@ -2,18 +2,20 @@
 use Rattle.std.proofs.Common.{◌≡◌, ◌≢◌, ◌↔◌, ℕ, zero, suc, ◌+◌, ◌<◌, List, [], ◌∷◌, ◌++◌, length, take, drop, Option, Some, None, sym, ◌∙◌, ap, refl, subst, inl, inr, arith, map, slice_index, add-one}
 use Rattle.std.specs.Prelude.{Bool, true, false, ◌⊎◌, ◌||◌, nat_eq, cond, IsSome}
 use Rattle.std.proofs.lemmas.Bool.{eq-eqb, ne_eqb, cases_eq, false≢true}
-use Rattle.std.proofs.lemmas.Bool.Decides.{nat_tests}
 use Rattle.std.proofs.lemmas.List.{map-append, length-take-le, append-nil}
 use Rattle.std.proofs.lemmas.List.Elements.{All-head, All-tail, All-nil, All-cons}
 use Rattle.std.proofs.Math.Seq.{take-suc, take-length, drop-length}
+use Rattle.slotted_lists.proofs.Members.{In}
+use Rattle.slotted_lists.proofs.Options.{some-or_none as told}
+use Rattle.slotted_lists.proofs.Lists.{length-map_names}
 use Rattle.slotted_theory.proofs.Laws.{moved_args-id}
 use Rattle.slotted_theory.specs.FiniteMaps.{top, filled, with_values}
 use Rattle.slotted_languages.proofs.FilledFrom.{filled_from, filled-walked}
-use Rattle.slotted_languages.proofs.Members.{In}
 use Rattle.slotted_languages.proofs.Occurrences.{is_among-firsts, lacks_smaller}
 use Rattle.slotted_slots.specs.Ascending.{AllAbove, IsAscending}
 use Rattle.slotted_slots.specs.Maps.{value_of, with_pair, with_first, composed, values, keys, is_among, KnowsAll}
 use Rattle.slotted_slots.specs.Table.{Table, is_known, KnowsMore}
+use Rattle.slotted_slots.proofs.MapLaws.{is_among-value_of}
 use Rattle.slotted_nodes.specs.Form.{Form, with_name}
 use Rattle.slotted_languages.specs.NodeTerm.{nameless_node, free_names_of}
 use Rattle.slotted_languages.specs.Shape.{shape, with_names, Fits, added, firsts}
@@ -61,15 +63,6 @@ none_chosen t xs avoid old free = record {
   meet = λ b n y e f g. cc;
 }
 
-pub is_value : (m : List (ℕ × ℕ)) (n y : ℕ) → value_of m n ≡ Some y → is_among y (values m) ≡ true
-is_value [] n y e = cc
-is_value (p ∷ m) n y e = grind (arith, nat_tests, is_value m n y)
-
--- the one or the other, for a name or none
-pub told : (o : Option ℕ) → ((z : ℕ) × (o ≡ Some z)) ⊎ (o ≡ None)
-told None = inr refl
-told (Some z) = inl (z, refl)
-
 told_bool : (b : Bool) → (b ≡ true) ⊎ (b ≡ false)
 told_bool true = inl refl
 told_bool false = inr refl
@@ -86,7 +79,7 @@ module _ (t : Table) (xs avoid : List ℕ) (old : ℕ → ℕ) (free : List (ℕ
         | inr f ↦ cc
       ]
       | inr g ↦ elim (told_bool (is_among (old number) avoid)) [
-        | inl a ↦ absurd (false≢true (sym (choice.not_new g a) ∙ is_value names n y e))
+        | inl a ↦ absurd (false≢true (sym (choice.not_new g a) ∙ is_among-value_of names n y e))
         | inr a ↦
             let k : y ≡ old number = choice.kept g a in
             elim (told (value_of free n)) [
@@ -171,7 +164,7 @@ module _ (t : Table) (xs avoid : List ℕ) (old : ℕ → ℕ) (free : List (ℕ
     }
       where
         not_given : (n v : ℕ) → y ≡ v → value_of free number ≡ None → is_among (old number) avoid ≡ true → value_of names n ≡ Some v → ⊥
-        not_given n v k f a e = false≢true (sym (choice.not_new f a) ∙ (ap (λ w. is_among w (values names)) k ∙ is_value names n v e))
+        not_given n v k f a e = false≢true (sym (choice.not_new f a) ∙ (ap (λ w. is_among w (values names)) k ∙ is_among-value_of names n v e))
 
         chosen_free : value_of free number ≡ None → is_among y avoid ≡ false
         chosen_free f = elim (told_bool (is_among (old number) avoid)) [
@@ -213,10 +206,6 @@ map_new_name : (free names more : List (ℕ × ℕ)) (ns : List ℕ) → Extends
 map_new_name free names more [] e c = refl
 map_new_name free names more (n ∷ ns) e c =
     λ i. or_free ((e n c.0.0 c.0.1 ∙ sym c.0.1) i) (value_of free n) ∷ map_new_name free names more ns e c.1 i
-
-pub mapped_length : (f : ℕ → ℕ) (xs : List ℕ) → length (map f xs) ≡ length xs
-mapped_length f [] = refl
-mapped_length f (x ∷ xs) = ap suc (mapped_length f xs)
 
 pub map_index : (f : ℕ → ℕ) (xs : List ℕ) (i : ℕ) → i < length xs → slice_index (map f xs) i ≡ f (slice_index xs i)
 map_index f [] i h = absurd (omega (arith, h))
@@ -290,8 +279,8 @@ none_renamed t f h avoid free names fits e none = record {
 pub renaming_number : (t u : Table) (f h : Form) (avoid : List ℕ) (free names : List (ℕ × ℕ)) (i : ℕ) → i < length f.names → IsRenaming t u f avoid free names h i → slice_index h.names i ≡ slice_index (shape f).0.names i
 renaming_number t u f h avoid free names i lt d =
     let ns = (shape f).0.names in
-    let l : length ns ≡ length f.names = sym (mapped_length d.was.old ns) ∙ ap length d.was.were in
-    let li : length (map (new_name free names) (take i ns)) ≡ i = mapped_length (new_name free names) (take i ns) ∙ length-take-le i ns (omega (arith, lt, l)) in
+    let l : length ns ≡ length f.names = sym (length-map_names d.was.old ns) ∙ ap length d.was.were in
+    let li : length (map (new_name free names) (take i ns)) ≡ i = length-map_names (new_name free names) (take i ns) ∙ length-take-le i ns (omega (arith, lt, l)) in
     ap (λ g. slice_index g.names i) d.named ∙ place_read (map (new_name free names) (take i ns)) ns i li
 
 -- one more number has its name
@@ -322,8 +311,8 @@ pub one_renamed : (t u v : Table) (f h k : Form) (avoid : List ℕ) (free names 
 one_renamed t u v f h k avoid free names more i name number y lt targets tu uv d en enum e ek =
     let ns = (shape f).0.names in
     let old = d.was.old in
-    let l : length ns ≡ length f.names = sym (mapped_length old ns) ∙ ap length d.was.were in
-    let li : length (map (new_name free names) (take i ns)) ≡ i = mapped_length (new_name free names) (take i ns) ∙ length-take-le i ns (omega (arith, lt, l)) in
+    let l : length ns ≡ length f.names = sym (length-map_names old ns) ∙ ap length d.was.were in
+    let li : length (map (new_name free names) (take i ns)) ≡ i = length-map_names (new_name free names) (take i ns) ∙ length-take-le i ns (omega (arith, lt, l)) in
     let e1 : number ≡ slice_index ns i = enum ∙ (ap (λ g. slice_index g.names i) d.named ∙ place_read (map (new_name free names) (take i ns)) ns i li) in
     let e2 : name ≡ old number = en ∙ (ap (λ xs. slice_index xs i) (sym d.was.were) ∙ (map_index old ns i (omega (arith, lt, l)) ∙ ap old (sym e1))) in
     let here : is_among (old number) f.names ≡ true = ap (λ x. is_among x f.names) (sym e2 ∙ en) ∙ among_index f.names i lt in
@@ -398,7 +387,7 @@ pub all_renamed : (t u : Table) (f h : Form) (avoid : List ℕ) (free names : Li
 all_renamed t u f h avoid free names i fits e d π ef =
     let ns = (shape f).0.names in
     let σ = new_name free names in
-    let l : i ≡ length ns = omega (arith, e, mapped_length d.was.old ns, ap length d.was.were) in
+    let l : i ≡ length ns = omega (arith, e, length-map_names d.was.old ns, ap length d.was.were) in
     let all : take i ns ≡ ns = ap (λ m. take m ns) l ∙ take-length ns in
     let put : h ≡ with_names f (map σ ns) =
     d.named ∙ ap (with_names f) ((λ j. map σ (all j) ++ (ap (λ m. drop m ns) l ∙ drop-length ns) j) ∙ append-nil (map σ ns)) in
@@ -513,7 +502,7 @@ composed_shape f m free h e =
 
 -- a set that has the values of a map has each value
 pub has_values : (names : List (ℕ × ℕ)) (set : List ℕ) → ((v : ℕ) → is_among v set ≡ is_among v (values names)) → (n z : ℕ) → value_of names n ≡ Some z → is_among z set ≡ true
-has_values names set h n z e = h z ∙ is_value names n z e
+has_values names set h n z e = h z ∙ is_among-value_of names n z e
 
 pub Has-among : (m : List (ℕ × ℕ)) (xs : List ℕ) (x : ℕ) → Has m xs → is_among x xs ≡ true → (v : ℕ) × (value_of m x ≡ Some v)
 Has-among m [] x h e = absurd (false≢true e)
@@ -550,11 +539,6 @@ knows_free f m free e = (
   λ k. Has-to m (free_names_of f) (Has-added_back m [] (free_names_of f) (Has-from m (firsts (free_names_of f)) (subst (KnowsAll m) e k))).1,
   λ k. subst (KnowsAll m) (sym e) (Has-to m (firsts (free_names_of f)) (Has-added m [] (free_names_of f) tt (Has-from m (free_names_of f) k))),
 )
-
--- names that stay
-pub moved_same : (m : List (ℕ × ℕ)) → m ≡ with_values (λ x. x) m
-moved_same [] = refl
-moved_same (p ∷ m) = ap (λ l. p ∷ l) (moved_same m)
 
 pub renamed_same : (t u : Table) (f : Form) (avoid : List ℕ) (g : Form) → IsRenamed t u (λ x. x) f avoid g → nameless_node g ≡ nameless_node f
 renamed_same t u f avoid g r = r.renamed ∙ λ i. record { op = suc f.operator; payloads = f.payloads; args = moved_args-id (nameless_node f).args i }

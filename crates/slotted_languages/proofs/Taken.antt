@@ -7,10 +7,10 @@ use Rattle.slotted_slots.specs.Table.{Table, Takes}
 use Rattle.slotted_slots.specs.Ascending.{AllAbove, IsAscending}
 use Rattle.slotted_slots.specs.Maps.{IsInEither, value_of, with_pair, values, keys, is_among}
 use Rattle.slotted_slots.proofs.Taken.{takes_then, takes_as}
+use Rattle.slotted_slots.proofs.MapLaws.{is_among-value_of}
 use Rattle.slotted_nodes.specs.Form.{Form}
 use Rattle.slotted_languages.specs.Fresh.{IsFilled, IsInUse, IsOrIn, replaced}
 use Rattle.slotted_languages.specs.Shape.{with_names}
-use Rattle.slotted_languages.proofs.Renamings.{is_value}
 use Rattle.slotted_languages.proofs.Walks.{value_of-with_pair_same}
 
 -- one more pair keeps the values
@@ -19,7 +19,7 @@ value_kept [] x y v missing h = absurd (false≢true h)
 value_kept (p ∷ m) x y v missing h = grind (arith, nat_tests, value_kept m x y v)
 
 pub value_put : (m : List (ℕ × ℕ)) (x y : ℕ) → is_among y (values (with_pair m x y)) ≡ true
-value_put m x y = is_value (with_pair m x y) x y (value_of-with_pair_same m x y)
+value_put m x y = is_among-value_of (with_pair m x y) x y (value_of-with_pair_same m x y)
 
 -- what a slot apart takes is a value, once it is entered
 pub entered_taken : (t u : Table) (avoid xs : List ℕ) (m n : List (ℕ × ℕ)) (x y : ℕ) → value_of m x ≡ None → n ≡ with_pair m x y → Takes t u (IsOrIn y avoid (values m) xs) → Takes t u (IsInUse avoid (values n) xs)

@@ -1,10 +1,13 @@
 -- What a table knows in addition stands in a renamed node.
 use Rattle.std.proofs.Common.{◌≡◌, ℕ, suc, zero, ◌+◌, ◌<◌, List, [], ◌∷◌, ◌++◌, length, map, take, drop, slice_index, slice_set, Some, ◌≢◌, sym, ◌∙◌, ap, refl, inl, inr, arith, add-one}
-use Rattle.std.specs.Prelude.{Bool, true, false, ◌⊎◌, ◌||◌, nat_eq, cond, Result, Ok, Err, IfOk}
+use Rattle.std.specs.Prelude.{Bool, true, false, ◌⊎◌, ◌||◌, nat_eq, cond}
 use Rattle.std.specs.List.{filter}
 use Rattle.std.specs.Ordering.{nat_cmp}
 use Rattle.std.proofs.lemmas.Bool.{false≢true, cases_eq, eq-eqb, ne_eqb}
 use Rattle.std.proofs.lemmas.Bool.Decides.{nat_tests}
+use Rattle.slotted_lists.proofs.Options.{some-or_none as told}
+use Rattle.slotted_lists.proofs.Lists.{length-map_names}
+use Rattle.slotted_lists.proofs.Maps.{values-with_values}
 use Rattle.slotted_theory.specs.FiniteMaps.{filled, with_values}
 use Rattle.slotted_theory.specs.Nameless.{DTerm, moved}
 use Rattle.slotted_theory.specs.Shape.{free_names}
@@ -15,6 +18,7 @@ use Rattle.slotted_slots.specs.Sets.{insert_key}
 use Rattle.slotted_slots.specs.Table.{Table, Takes}
 use Rattle.slotted_slots.proofs.Ascending.{is_among-insert_key}
 use Rattle.slotted_slots.proofs.Taken.{takes_then, takes_as}
+use Rattle.slotted_slots.proofs.MapLaws.{is_among-value_of}
 use Rattle.slotted_languages.specs.Children.{below}
 use Rattle.slotted_nodes.specs.Form.{Form, with_name}
 use Rattle.slotted_languages.specs.Fresh.{IsFilled, IsInUse}
@@ -25,7 +29,7 @@ use Rattle.slotted_languages.specs.Shape.{Fits, firsts, shape}
 use Rattle.slotted_languages.proofs.Occurrences.{is_among-append, is_among-firsts}
 use Rattle.slotted_languages.proofs.Fills.{filled_at}
 use Rattle.slotted_languages.proofs.PublicNames.{public_free}
-use Rattle.slotted_languages.proofs.Renamings.{IsRenaming, new_name, told, among_index, is_value, mapped_length}
+use Rattle.slotted_languages.proofs.Renamings.{IsRenaming, new_name, among_index}
 use Rattle.slotted_languages.proofs.Taken.{among_map, grown_taken, keyed, value_kept}
 
 -- what stands among mapped numbers was mapped
@@ -83,10 +87,6 @@ moved_stands f g π x fits e h =
     let same : free_names_of g ≡ map π (free_names_of f) = ap (λ (t : DTerm). free_names t.args) e ∙ free_names-moved π d.args in
     free_stands g (π x) fits (ap (is_among (π x)) same ∙ among_map π (free_names_of f) x h)
 
-pub values-moved : (π : ℕ → ℕ) (m : List (ℕ × ℕ)) → values (with_values π m) ≡ map π (values m)
-values-moved π [] = refl
-values-moved π (p ∷ m) = ap (λ vs. π p.1 ∷ vs) (values-moved π m)
-
 -- a set that gets one more name of a node has nothing but those of before and names of the node
 pub within_among : (start old new names : List ℕ) (i slot x : ℕ) → new ≡ insert_key nat_cmp old slot → slot ≡ slice_index names i → i < length names → (is_among x old ≡ true → IsInEither start names x) → is_among x new ≡ true → IsInEither start names x
 within_among start old new names i slot x e s lt before h =
@@ -99,7 +99,7 @@ within_among start old new names i slot x e s lt before h =
 -- each value of the map that renames numbers is a free name of the renamed node
 pub value_free : (f g : Form) (π : ℕ → ℕ) (free names : List (ℕ × ℕ)) (z : ℕ) → values free ≡ firsts (free_names_of f) → names ≡ with_values π free → nameless_node g ≡ moved π (nameless_node f) → is_among z (values names) ≡ true → is_among z (free_names_of g) ≡ true
 value_free f g π free names z ef en e h =
-    let r = among_of_map π (values free) z (ap (is_among z) (sym (ap values en ∙ values-moved π free)) ∙ h) in
+    let r = among_of_map π (values free) z (ap (is_among z) (sym (ap values en ∙ values-with_values π free)) ∙ h) in
     let here : is_among r.0 (free_names_of f) ≡ true = sym (is_among-firsts r.0 (free_names_of f)) ∙ (ap (is_among r.0) (sym ef) ∙ r.1) in
     let same : free_names_of g ≡ map π (free_names_of f) = ap (λ (t : DTerm). free_names t.args) e ∙ free_names-moved π (nameless_node f).args in
     ap (λ w. is_among w (free_names_of g)) (sym r.2) ∙ (ap (is_among (π r.0)) same ∙ among_map π (free_names_of f) r.0 here)
@@ -180,7 +180,7 @@ split_length σ (x ∷ ns) (suc i) = omega (arith, split_length σ ns i)
 pub renaming_length : (t u : Table) (f h : Form) (avoid : List ℕ) (free names : List (ℕ × ℕ)) (i : ℕ) → IsRenaming t u f avoid free names h i → length h.names ≡ length f.names
 renaming_length t u f h avoid free names i d =
     let ns = (shape f).0.names in
-    ap (λ (e : Form). length e.names) d.named ∙ (split_length (new_name free names) ns i ∙ (sym (mapped_length d.was.old ns) ∙ ap length d.was.were))
+    ap (λ (e : Form). length e.names) d.named ∙ (split_length (new_name free names) ns i ∙ (sym (length-map_names d.was.old ns) ∙ ap length d.was.were))
 
 -- what was taken for the names so far
 pub entered_takes : (t u v : Table) (xs avoid : List ℕ) (free old new : List (ℕ × ℕ)) (number name y : ℕ) → IsEntered u v xs avoid free old new number name y → Takes t u (IsInUse avoid (values old) xs) → Takes u v (IsInUse avoid (values new) xs) → Takes t v (IsInUse avoid (values new) xs)
@@ -215,13 +215,8 @@ filled_taken t u v m names wanted f g fits fitsg up d w e h k =
   where
     value : (z : ℕ) → ((x : ℕ) × (value_of names x ≡ Some z)) → IsInUse (values m) g.names f.names z
     value z (x, has) = elim (told (value_of m x)) [
-      | inl old ↦ inl (ap (λ y. is_among y (values m)) (cc (has, d.kept x old.0 old.1)) ∙ is_value m x old.0 old.1)
+      | inl old ↦ inl (ap (λ y. is_among y (values m)) (cc (has, d.kept x old.0 old.1)) ∙ is_among-value_of m x old.0 old.1)
       | inr none ↦
           let free : is_among x (free_names_of f) ≡ true = sym (w x) ∙ d.asked x z none has in
           inr (inl (ap (λ y. is_among y g.names) (sym (filled_at names x z has)) ∙ moved_stands f g (filled names) x fitsg e free))
     ]
-
--- two facts of one answer
-pub both_ok : {A E : Type 0} (r : Result A E) (P Q R : A → Type 0) → ((x : A) → P x → Q x → R x) → IfOk r P → IfOk r Q → IfOk r R
-both_ok (Ok x) P Q R h p q = h x p q
-both_ok (Err e) P Q R h p q = tt

@@ -3,6 +3,7 @@ use Rattle.std.proofs.Common.{◌≡◌, ◌∙◌, ℕ, suc, ◌<◌, List, [],
 use Rattle.std.specs.Prelude.{Option, Some, None, IsSome, slice_index_or, unwrap_or}
 use Rattle.std.proofs.lemmas.List.{get_or-map, length-map, take-map, drop-map}
 use Rattle.std.proofs.lemmas.List.Elements.{All-contains}
+use Rattle.slotted_lists.proofs.Options.{some-or_none as told}
 use Rattle.slotted_theory.specs.FiniteMaps.{filled}
 use Rattle.slotted_theory.specs.Nameless.{place, sub, nameless_args, moved}
 use Rattle.slotted_theory.proofs.FreeNames.{moved-agrees}
@@ -19,7 +20,6 @@ use Rattle.slotted_languages.specs.NodeTerm.{own_names, node_args, nameless_node
 use Rattle.slotted_languages.specs.Shape.{Fits}
 use Rattle.slotted_languages.proofs.Fills.{filled_at}
 use Rattle.slotted_languages.proofs.NodeTerms.{own_fits, child_rest_fits}
-use Rattle.slotted_languages.proofs.Renamings.{told}
 
 -- a tree without binders
 abbrev IsUnbound : Tree → Type 0

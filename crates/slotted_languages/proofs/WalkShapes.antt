@@ -1,8 +1,9 @@
 -- Numbering the places from the left gives the shape.
-use Rattle.std.proofs.Common.{◌≡◌, ◌≢◌, ℕ, zero, suc, ◌+◌, ◌<◌, ◌≤◌, List, [], ◌∷◌, ◌++◌, length, take, drop, Option, Some, None, Bool, sym, ◌∙◌, ap, refl, subst, inl, inr, arith, map, slice_index, length-append, length-drop}
+use Rattle.std.proofs.Common.{◌≡◌, ◌≢◌, ℕ, suc, ◌+◌, ◌<◌, ◌≤◌, List, [], ◌∷◌, ◌++◌, length, take, drop, Option, Some, None, Bool, sym, ◌∙◌, ap, refl, subst, inl, inr, arith, map, slice_index, length-append, length-drop}
 use Rattle.std.specs.Prelude.{cond, nat_eq, nat_lt, true, false, ◌&&◌}
 use Rattle.std.proofs.lemmas.Bool.{eq-eqb, ne_eqb, cases_eq, lt-ltb, le-ltb}
 use Rattle.std.proofs.lemmas.List.{length-take-le}
+use Rattle.slotted_lists.proofs.Lists.{drop-drop_one, first-take, drop_one-take}
 use Rattle.slotted_theory.specs.Term.{Args, name}
 use Rattle.slotted_theory.specs.Nameless.{extend, nameless_args}
 use Rattle.slotted_theory.proofs.Names.{extend-same, extend-other}
@@ -76,33 +77,19 @@ Sees-binder ns ρ bs i e n x u l s = record {
   ];
 }
 
-drop_one : (n : ℕ) (xs : List ℕ) → drop n (drop 1 xs) ≡ drop (suc n) xs
-drop_one n (x ∷ xs) = refl
-drop_one zero [] = refl
-drop_one (suc n) [] = refl
-
 walk-append : (ss us : List (Option ℕ)) (xs : List ℕ) (i j : ℕ) (w : Walk) → j ≡ i + length ss → ◌≡◌ {A = List ℕ × Walk} (walk (ss ++ us) xs i w) ((walk ss xs i w).0 ++ (walk us (drop (length ss) xs) j (walk ss xs i w).1).0, (walk us (drop (length ss) xs) j (walk ss xs i w).1).1)
 walk-append [] us xs i j w e = let p : i ≡ j = omega (arith, e) in ap (λ n. walk us xs n w) p
 walk-append (o ∷ ss) us xs i j w e =
     let t = walk_at w (slice_index xs 0) i (end_at i o) in
     let q = walk ss (drop 1 xs) (i + 1) t.1 in
     ap (λ (r : List ℕ × Walk). (t.0 ∷ r.0, r.1)) (walk-append ss us (drop 1 xs) (i + 1) j t.1 (omega (arith, e)))
-    ∙ ap (λ ys. (t.0 ∷ (q.0 ++ (walk us ys j q.1).0), (walk us ys j q.1).1)) (drop_one (length ss) xs)
-
-first_of_take : (n : ℕ) (xs : List ℕ) → slice_index (take (suc n) xs) 0 ≡ slice_index xs 0
-first_of_take n [] = refl
-first_of_take n (x ∷ xs) = refl
-
-rest_of_take : (n : ℕ) (xs : List ℕ) → drop 1 (take (suc n) xs) ≡ take n (drop 1 xs)
-rest_of_take zero [] = refl
-rest_of_take (suc n) [] = refl
-rest_of_take n (x ∷ xs) = refl
+    ∙ ap (λ ys. (t.0 ∷ (q.0 ++ (walk us ys j q.1).0), (walk us ys j q.1).1)) (drop-drop_one (length ss) xs)
 
 walk-take : (ss : List (Option ℕ)) (xs : List ℕ) (i : ℕ) (w : Walk) → walk ss (take (length ss) xs) i w ≡ walk ss xs i w
 walk-take [] xs i w = refl
 walk-take (o ∷ ss) xs i w =
-    ap (λ x. let t = walk_at w x i (end_at i o) in let r = walk ss (drop 1 (take (suc (length ss)) xs)) (i + 1) t.1 in (t.0 ∷ r.0, r.1)) (first_of_take (length ss) xs)
-    ∙ (ap (λ ys. let t = walk_at w (slice_index xs 0) i (end_at i o) in let r = walk ss ys (i + 1) t.1 in (t.0 ∷ r.0, r.1)) (rest_of_take (length ss) xs)
+    ap (λ x. let t = walk_at w x i (end_at i o) in let r = walk ss (drop 1 (take (suc (length ss)) xs)) (i + 1) t.1 in (t.0 ∷ r.0, r.1)) (first-take (length ss) xs)
+    ∙ (ap (λ ys. let t = walk_at w (slice_index xs 0) i (end_at i o) in let r = walk ss ys (i + 1) t.1 in (t.0 ∷ r.0, r.1)) (drop_one-take (length ss) xs)
     ∙ ap (λ (r : List ℕ × Walk). ((walk_at w (slice_index xs 0) i (end_at i o)).0 ∷ r.0, r.1)) (walk-take ss (drop 1 xs) (i + 1) (walk_at w (slice_index xs 0) i (end_at i o)).1))
 
 -- one own place, and what follows

@@ -2,11 +2,13 @@
 use Rattle.std.proofs.Common.{◌≡◌, ◌≢◌, ◌<◌, ℕ, List, [], ◌∷◌, Some, length, map, refl, ap, ◌∙◌, sym, subst, inl, inr, arith}
 use Rattle.std.specs.Prelude.{Contains, option_map}
 use Rattle.std.specs.List.{cons_option, zip}
+use Rattle.slotted_lists.proofs.Contained.{contains_head, contains_tail}
+use Rattle.slotted_lists.proofs.Members.{In, In-Contains, In-map}
+use Rattle.slotted_lists.proofs.Maps.{value_of-first, value_of-rest, zip-keys_values, keys-with_values, values-with_values}
 use Rattle.slotted_theory.specs.FiniteMaps.{filled, value_of, with_values, HasValue, IsInjectiveMap}
 use Rattle.slotted_theory.specs.Nameless.{moved}
 use Rattle.slotted_theory.proofs.ByBijection.{moved-injective}
 use Rattle.slotted_theory.proofs.Filled.{filled-injective}
-use Rattle.slotted_theory.proofs.Lists.{contains_head, contains_tail}
 use Rattle.slotted_nodes.specs.Form.{Form}
 use Rattle.slotted_languages.specs.NodeTerm.{nameless_node}
 use Rattle.slotted_languages.specs.Shape.{Fits, shape}
@@ -19,10 +21,9 @@ use Rattle.slotted_model.specs.Find.{Entry, find, find_map, entry_at}
 use Rattle.slotted_model.specs.Normal.{normal}
 use Rattle.slotted_model.specs.Rest.{IsCurrent}
 use Rattle.slotted_model.specs.State.{State, look_up_normal, normal_node}
-use Rattle.slotted_model.proofs.Correspondences.Pairs.{Contains-of_value, Contains-value, value_of-other, value_of-same}
+use Rattle.slotted_model.proofs.Correspondences.Pairs.{Contains-of_value, Contains-value}
 use Rattle.slotted_model.proofs.Finds.Finding.{find_map-full}
-use Rattle.slotted_model.proofs.Data.Maps.{keys-map_on, keys-with_values, map_on-filled, values-map_on, values-with_values}
-use Rattle.slotted_model.proofs.Data.Members.{In, In-Contains, In-map}
+use Rattle.slotted_model.proofs.Data.Maps.{keys-map_on, map_on-filled, values-map_on}
 use Rattle.slotted_model.proofs.Finds.NormalIds.{found-full, used-by}
 use Rattle.slotted_model.proofs.Rebuilding.Refiling.{canonical-valid, normal-again}
 use Rattle.slotted_model.proofs.Represented.RenamedIds.{normal-moves}
@@ -31,7 +32,6 @@ use Rattle.slotted_proofs.proofs.Bridges.{ascends, injective_differ}
 use Rattle.slotted_classes.specs.Finding.{IsFindable}
 use Rattle.slotted_classes.specs.Kept.{Kept, nodes_of, entries_of}
 use Rattle.slotted_classes.specs.Names.{between}
-use Rattle.slotted_classes.proofs.ChildIds.{zip-keys_values}
 use Rattle.slotted_classes.proofs.KeptLists.{length-mapped}
 use Rattle.slotted_hashcons.specs.Filed.{filed_of}
 use Rattle.slotted_hashcons.specs.FiledRows.{Rows, row_of_entry}
@@ -80,12 +80,12 @@ beside-value (p ∷ m) (q ∷ n) e a i x s u h k =
     let W : List (ℕ × ℕ) = zip (values m) (values n) in
     elim h [
       | inl d ↦ elim k [
-        | inl c ↦ value_of-same (p.1, q.1) W s (ap (λ y. y.1) d) ∙ ap (λ y. Some y.1) (sym c)
+        | inl c ↦ value_of-first (p.1, q.1) W s (ap (λ y. y.1) d) ∙ ap (λ y. Some y.1) (sym c)
         | inr c ↦ absurd (later-key q n x u others c (ap (λ y. y.0) d ∙ same))
       ]
       | inr d ↦ elim k [
         | inl c ↦ absurd (later-key p m x s a d (ap (λ y. y.0) c ∙ sym same))
-        | inr c ↦ value_of-other (p.1, q.1) W s (λ z. i.0 (subst (HasValue m) z (has-value m x s d))) ∙ beside-value m n rest a.1 i.1 x s u d c
+        | inr c ↦ value_of-rest (p.1, q.1) W s (λ z. i.0 (subst (HasValue m) z (has-value m x s d))) ∙ beside-value m n rest a.1 i.1 x s u d c
       ]
     ]
 

@@ -2,6 +2,9 @@
 use Rattle.std.proofs.Common.{◌≡◌, ℕ, suc, zero, ◌+◌, ◌<◌, ◌≤◌, List, [], ◌∷◌, ◌++◌, length, take, drop, map, get_or, refl, slice_index, ap, ◌∙◌, sym, subst, arith, inl, inr, true, false, true≢false}
 use Rattle.std.specs.List.{zip}
 use Rattle.std.proofs.lemmas.List.{take_at, drop_at, take_more, drop_more, take-append-drop}
+use Rattle.slotted_lists.proofs.Members.{In, In-append, In-of_map, In-take, In-drop, In-first}
+use Rattle.slotted_lists.proofs.Each.{Each, Each-append, Each-from_All, Each-join}
+use Rattle.slotted_lists.proofs.Maps.{zip-keys_values, In-zip}
 use Rattle.slotted_theory.specs.Nameless.{scope, sub, extend, nameless_args}
 use Rattle.slotted_theory.specs.Renaming.{IsInjective}
 use Rattle.slotted_theory.proofs.Names.{extend-other, extend-injective}
@@ -12,21 +15,19 @@ use Rattle.slotted_nodes.specs.Form.{Form, Tree, leaf, own, child, bind, scopes,
 use Rattle.slotted_languages.specs.NodeTerm.{nameless_node, own_names, node_args}
 use Rattle.slotted_languages.specs.Shape.{Fits}
 use Rattle.slotted_languages.proofs.NodeTerms.{own_fits, child_keys_fit, child_rest_fits, bind_inner_fits, bind_rest_fits}
-use Rattle.slotted_model.specs.Applied.{Applied, renamed_id, as_term, applied_of}
+use Rattle.slotted_model.specs.Applied.{Applied, renamed_id, as_term}
 use Rattle.slotted_model.specs.Classes.{IsFull}
 use Rattle.slotted_model.specs.Filling.{IsFilling, FillsArgs, FillsNode}
 use Rattle.slotted_model.specs.Find.{find, used_slots}
 use Rattle.slotted_model.specs.Normal.{EqualInTurn}
-use Rattle.slotted_model.proofs.Finds.Congruence.{child-applied}
 use Rattle.slotted_model.proofs.Represented.FilledNodes.{in_turn-normal}
-use Rattle.slotted_model.proofs.Data.Members.{In, In-append, In-of_map}
 use Rattle.slotted_model.proofs.Finds.NormalIds.{found-renamed}
 use Rattle.slotted_classes.specs.ChildIds.{ids_in, child_ids}
 use Rattle.slotted_classes.specs.Finding.{IsFindable}
 use Rattle.slotted_classes.specs.Kept.{Kept, nodes_of, entries_of}
-use Rattle.slotted_classes.proofs.ChildIds.{Each, Each-append, Each-from_All, atom-is, zip-keys_values, length-ids}
+use Rattle.slotted_classes.proofs.ChildIds.{atom-is, length-ids}
 use Rattle.slotted_hashcons.specs.NormalNodes.{HasFindableChildren}
-use Rattle.slotted_hashcons.proofs.FoundChildren.{Each-at, child_ids-valid}
+use Rattle.slotted_hashcons.proofs.FoundChildren.{Each-at, child_ids-valid, applied-atom}
 use Rattle.slotted_lookup.specs.Filling.{HasFullChildren, HasOneNormalForm, MakesAtMost, RunsOut, with_fresh, filled_id, filled_ids, filled_node, missing, missing_in, missing_of, tree_over, names_over, node_over}
 use Rattle.slotted_lookup.proofs.IdFillings.{FillsNew, Knows, knows, all_known, known-apart, filled-new, new-renamed, filled-found, filled-known, filled-whole, with_fresh-more}
 use Rattle.slotted_lookup.proofs.NodesOver.{over_fits, names_fit, child_ids-over, node_over-own}
@@ -52,10 +53,6 @@ in_turn-second R P f [] [] h = tt
 in_turn-second R P f [] (q ∷ qs) h = absurd h
 in_turn-second R P f (p ∷ ps) [] h = absurd h
 in_turn-second R P f (p ∷ ps) (q ∷ qs) h = (f p q h.0, in_turn-second R P f ps qs h.1)
-
-Each-both : {X : Type 0} (P : X → Type 0) (xs ys : List X) → Each P xs → Each P ys → Each P (xs ++ ys)
-Each-both P [] ys h g = g
-Each-both P (x ∷ xs) ys h g = (h.0, Each-both P xs ys h.1 g)
 
 -- some ids filled, one after another
 
@@ -113,43 +110,22 @@ runs_out-after n m l t u v e p h =
 
 -- names of a node and of its children
 
-In-taken : (n : ℕ) (xs : List ℕ) (x : ℕ) → In x (take n xs) → In x xs
-In-taken zero xs x h = absurd h
-In-taken (suc n) [] x h = absurd h
-In-taken (suc n) (y ∷ ys) x (inl e) = inl e
-In-taken (suc n) (y ∷ ys) x (inr h) = inr (In-taken n ys x h)
-
-In-dropped : (n : ℕ) (xs : List ℕ) (x : ℕ) → In x (drop n xs) → In x xs
-In-dropped zero xs x h = h
-In-dropped (suc n) [] x h = absurd h
-In-dropped (suc n) (y ∷ ys) x h = inr (In-dropped n ys x h)
-
-In-zip : (ks vs : List ℕ) (x : ℕ) → In x (values (zip ks vs)) → In x vs
-In-zip [] vs x h = absurd h
-In-zip (k ∷ ks) [] x h = absurd h
-In-zip (k ∷ ks) (v ∷ vs) x (inl e) = inl e
-In-zip (k ∷ ks) (v ∷ vs) x (inr h) = inr (In-zip ks vs x h)
-
-In-first : (xs : List ℕ) (n : ℕ) → length xs ≡ suc n → In (slice_index xs 0) xs
-In-first [] n h = absurd (omega arith)
-In-first (y ∷ ys) n h = inl refl
-
 knows-taken : (t : Table) (n : ℕ) (xs : List ℕ) → Knows t xs → Knows t (take n xs)
-knows-taken t n xs h x i = h x (In-taken n xs x i)
+knows-taken t n xs h x i = h x (In-take n xs x i)
 
 knows-dropped : (t : Table) (n : ℕ) (xs : List ℕ) → Knows t xs → Knows t (drop n xs)
-knows-dropped t n xs h x i = h x (In-dropped n xs x i)
+knows-dropped t n xs h x i = h x (In-drop n xs x i)
 
 -- a table that knows the names of a node knows those of each child
 knows-ids : (t : Table) (u : Tree) (xs : List ℕ) → Knows t xs → Each (λ (a : Applied). Knows t (values a.1)) (ids_in u xs)
 knows-ids t leaf xs h = tt
 knows-ids t (own r) xs h = knows-ids t r (drop 1 xs) (knows-dropped t 1 xs h)
 knows-ids t (child i ks r) xs h =
-    (λ x g. h x (In-taken (length ks) xs x (In-zip ks (take (length ks) xs) x g)), knows-ids t r (drop (length ks) xs) (knows-dropped t (length ks) xs h))
+    (λ x g. h x (In-take (length ks) xs x (In-zip ks (take (length ks) xs) x g)), knows-ids t r (drop (length ks) xs) (knows-dropped t (length ks) xs h))
 knows-ids t (bind u r) xs h =
     let n = length (scopes u) in
     let below = knows-dropped t 1 xs h in
-    Each-both (λ (a : Applied). Knows t (values a.1)) (ids_in u (take n (drop 1 xs))) (ids_in r (drop n (drop 1 xs)))
+    Each-join (λ (a : Applied). Knows t (values a.1)) (ids_in u (take n (drop 1 xs))) (ids_in r (drop n (drop 1 xs)))
     (knows-ids t u (take n (drop 1 xs)) (knows-taken t n (drop 1 xs) below))
     (knows-ids t r (drop n (drop 1 xs)) (knows-dropped t n (drop 1 xs) below))
 
@@ -175,10 +151,6 @@ knows-over t (bind u r) xs bs n h g x (inr i) =
     ]
 
 -- the nameless form
-
--- the id that a child is under binders that ρ numbers
-pub id-under : (ρ : ℕ → ℕ) (i : ℕ) (ks vs : List ℕ) → length vs ≡ length ks → applied_of ((i ∷ ks) ∷ []) (nameless_args ρ (own_names vs)) ≡ renamed_id ρ (i, zip ks vs)
-id-under ρ i ks vs n = child-applied (λ _. Unit {0}) 0 ((i ∷ ks) ∷ []) (nameless_args ρ (own_names vs)) (renamed_id ρ (i, zip ks vs), atom-is ρ i ks vs n, tt)
 
 -- another child, before the arguments that follow
 pub child-over : (ρ : ℕ → ℕ) (b : Applied) (r : Tree) (ys : List ℕ) → nameless_args ρ (node_args (child b.0 (keys b.1) r) (values b.1 ++ ys)) ≡ child_before (as_term (renamed_id ρ b)) (nameless_args ρ (node_args r ys))
@@ -206,7 +178,7 @@ alike-over k ρ (child i ks r) xs (b ∷ bs) n h =
       renamed_id ρ b,
       nameless_args ρ (node_args (tree_over r bs) (names_over r (drop (length ks) xs) bs)),
       child-over ρ b (tree_over r bs) (names_over r (drop (length ks) xs) bs),
-      ap (find found) (id-under ρ i ks vs (child_keys_fit i ks r xs n)) ∙ (found-renamed found ρ a ∙ (ap (renamed_id ρ) h.0 ∙ sym (found-renamed found ρ b))),
+      ap (find found) (applied-atom ρ i ks vs (child_keys_fit i ks r xs n)) ∙ (found-renamed found ρ a ∙ (ap (renamed_id ρ) h.0 ∙ sym (found-renamed found ρ b))),
       alike-over k ρ r (drop (length ks) xs) bs (child_rest_fits i ks r xs n) h.1,
     )
 alike-over k ρ (bind u r) xs bs n h =
@@ -254,7 +226,7 @@ fills-over k t ρ inj given apart (child i ks r) xs (b ∷ bs) n known h =
       renamed_id ρ b,
       nameless_args ρ (node_args (tree_over r bs) (names_over r (drop (length ks) xs) bs)),
       child-over ρ b (tree_over r bs) (names_over r (drop (length ks) xs) bs),
-      subst (λ p. IsFilling (nodes_of k) given p (renamed_id ρ b)) (sym (id-under ρ i ks vs (child_keys_fit i ks r xs n))) (new-renamed k t a b h.0 ρ inj given apart),
+      subst (λ p. IsFilling (nodes_of k) given p (renamed_id ρ b)) (sym (applied-atom ρ i ks vs (child_keys_fit i ks r xs n))) (new-renamed k t a b h.0 ρ inj given apart),
       fills-over k t ρ inj given apart r (drop (length ks) xs) bs (child_rest_fits i ks r xs n) (knows-dropped t (length ks) xs known) h.1,
     )
 fills-over k t ρ inj given apart (bind u r) xs bs n known h =

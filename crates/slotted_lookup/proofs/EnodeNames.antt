@@ -3,9 +3,11 @@ use Rattle.std.proofs.Common.{◌≡◌, ℕ, List, Option, Some, None, true, ma
 use Rattle.std.specs.Prelude.{◌⊎◌, Contains, IsTrue, unwrap_or}
 use Rattle.std.proofs.lemmas.Bool.{false≢true}
 use Rattle.std.proofs.lemmas.List.Elements.{All-contains}
+use Rattle.slotted_lists.proofs.Contained.{Contains-map}
+use Rattle.slotted_lists.proofs.Members.{Contains-In, In, In-Contains, In-right}
+use Rattle.slotted_lists.proofs.Maps.{In-is_among}
 use Rattle.slotted_theory.specs.FiniteMaps.{filled, value_of, IsInjectiveMap}
 use Rattle.slotted_theory.specs.Nameless.{moved}
-use Rattle.slotted_theory.proofs.Lists.{Contains-map}
 use Rattle.slotted_slots.specs.Ascending as rising
 use Rattle.slotted_slots.specs.Maps as slots
 use Rattle.slotted_slots.specs.Table.{Table, fresh_slot, is_known}
@@ -23,7 +25,6 @@ use Rattle.slotted_model.proofs.Correspondences.Pairs.{Contains-key, Contains-of
 use Rattle.slotted_model.proofs.Correspondences.PartialInjections.{composite-by, composite-over, composite-partial, value_of-in_order}
 use Rattle.slotted_model.proofs.Finds.Finding.{find_map-full, found_keys}
 use Rattle.slotted_model.proofs.Data.Maps.{IsInjectiveMap-map_on, filled-map_on, keys-map_on}
-use Rattle.slotted_model.proofs.Data.Members.{Contains-In, In, In-Contains, In-right}
 use Rattle.slotted_model.proofs.Finds.NormalIds.{found-full, found-name}
 use Rattle.slotted_model.proofs.Data.Theory.{moved-agrees}
 use Rattle.slotted_proofs.proofs.Bridges.{ascends, own_full, value_of-model}
@@ -39,7 +40,6 @@ use Rattle.slotted_hashcons.specs.WellFiled.{IsKeyed, IsWellFiled}
 use Rattle.slotted_hashcons.proofs.KeyedNodes.{own-numbers}
 use Rattle.slotted_lookup.specs.Enodes.{AllKnownTo, IsLookedUpAs, IsMet, names_beside_of}
 use Rattle.slotted_lookup.proofs.AppliedNodes.{filed-in_nodes, filed-key, filed-node, named-looked_up, same-keys, shape-named}
-use Rattle.slotted_lookup.proofs.ReportLists.{In-among}
 
 module _ (k : Kept) (r : Rows) (well : IsWellFiled k r) (o : ℕ) (f : Form) (m : List (ℕ × ℕ)) (at : filed_of r.filed o ≡ Some (f, m)) (quiet : ¬ Contains r.waiting o)
     (a : Applied) (valid : IsFindable k a) (meets : IsMet k o a) where
@@ -149,10 +149,10 @@ module _ (k : Kept) (r : Rows) (well : IsWellFiled k r) (o : ℕ) (f : Form) (m 
         go : (p q : Option ℕ) → slots.value_of w x ≡ p → slots.value_of w z ≡ q → x ≡ z
         go (Some u) (Some v) i j = same-value x z u v i j (sym (is.known x u i) ∙ (e ∙ is.known z v j))
         go (Some u) None i j =
-            absurd (false≢true (sym (is.unused z (In-among (free_names_of f) z hz) j) ∙ (ap (is_known t) (sym e ∙ is.known x u i) ∙ is-known x u i)))
+            absurd (false≢true (sym (is.unused z (In-is_among (free_names_of f) z hz) j) ∙ (ap (is_known t) (sym e ∙ is.known x u i) ∙ is-known x u i)))
         go None (Some v) i j =
-            absurd (false≢true (sym (is.unused x (In-among (free_names_of f) x hx) i) ∙ (ap (is_known t) (e ∙ is.known z v j) ∙ is-known z v j)))
-        go None None i j = is.differ x z (In-among (free_names_of f) x hx) i (In-among (free_names_of f) z hz) e
+            absurd (false≢true (sym (is.unused x (In-is_among (free_names_of f) x hx) i) ∙ (ap (is_known t) (e ∙ is.known z v j) ∙ is-known z v j)))
+        go None None i j = is.differ x z (In-is_among (free_names_of f) x hx) i (In-is_among (free_names_of f) z hz) e
 
     pub beside-looked_up : IsLookedUpAs k r a c
     beside-looked_up = by-looked_up is.by is.known apart c fits is.renamed

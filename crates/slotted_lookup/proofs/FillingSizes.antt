@@ -4,6 +4,8 @@ use Rattle.std.specs.Prelude.{Option, Some, None, IsSome, min}
 use Rattle.std.specs.List.{zip}
 use Rattle.std.proofs.lemmas.Bool.{ne_eqb, cases_eq}
 use Rattle.std.proofs.lemmas.Slice.Zip.{length-zip}
+use Rattle.slotted_lists.proofs.Members.{In}
+use Rattle.slotted_lists.proofs.Each.{Each, Each-from_All}
 use Rattle.slotted_theory.specs.Nameless.{extend, nameless_args}
 use Rattle.slotted_slots.specs.Maps.{keys, value_of}
 use Rattle.slotted_nodes.specs.Form.{Form, Tree, leaf, own, child, bind, scopes, children}
@@ -14,13 +16,12 @@ use Rattle.slotted_model.specs.Applied.{Applied}
 use Rattle.slotted_model.specs.Ascending.{IsBelowAll, IsAscending}
 use Rattle.slotted_model.specs.Classes.{canonical_slots, IsFull}
 use Rattle.slotted_model.proofs.Represented.Fillings.{slots-ascending}
-use Rattle.slotted_model.proofs.Data.Members.{In}
 use Rattle.slotted_classes.specs.ChildIds.{ids_in, child_ids}
 use Rattle.slotted_classes.specs.Kept.{Kept, nodes_of}
-use Rattle.slotted_classes.proofs.ChildIds.{Each, Each-from_All, length-ids}
-use Rattle.slotted_classes.proofs.NameMaps.{In-key}
+use Rattle.slotted_classes.proofs.ChildIds.{length-ids}
 use Rattle.slotted_languages.specs.Sizes.{args_size, node_size}
 use Rattle.slotted_languages.proofs.NodeSizes.{names_in}
+use Rattle.slotted_languages.proofs.Counting.{In-value}
 use Rattle.slotted_lookup.specs.Filling.{HasFullChildren, lack, lacked, named, filled_id, filled_ids, filled_node, missing, missing_in, missing_of, tree_over, names_over, node_over}
 use Rattle.slotted_lookup.proofs.ChildFillings.{length-filled}
 use Rattle.slotted_lookup.proofs.NodesOver.{length-over, over_fits, child_ids-over}
@@ -72,7 +73,7 @@ lacked-none m (s ∷ ss) h = omega (arith, lack-none (value_of m s) (h s (inl re
 
 -- a full id lacks no name
 pub missing-full : (k : Kept) (a : Applied) → IsFull (nodes_of k) a → missing k a ≡ 0
-missing-full k a full = ap (lacked a.1) (sym full.slots) ∙ lacked-none a.1 (keys a.1) (In-key a.1)
+missing-full k a full = ap (lacked a.1) (sym full.slots) ∙ lacked-none a.1 (keys a.1) (In-value a.1)
 
 missing-each : (k : Kept) (ps : List Applied) → Each (IsFull (nodes_of k)) ps → missing_in k ps ≡ 0
 missing-each k [] h = refl

@@ -4,6 +4,9 @@ use Rattle.std.specs.Prelude.{Contains, IsSome, option_map, slice_index_or}
 use Rattle.std.specs.List.{zip, cons_option}
 use Rattle.std.specs.Map.{values_of}
 use Rattle.std.proofs.lemmas.Bool.{eq-eqb, ne_eqb, le-ltb, lt-ltb}
+use Rattle.slotted_lists.proofs.Members.{In, In-map, In-of_map, In-Contains, Contains-In}
+use Rattle.slotted_lists.proofs.Maps.{zip-keys_values, keys-with_values}
+use Rattle.slotted_lists.proofs.Options.{some-or_none}
 use Rattle.slotted_theory.specs.Nameless.{DTerm}
 use Rattle.slotted_theory.specs.Renaming.{IsInjective}
 use Rattle.slotted_theory.specs.FiniteMaps.{IsInjectiveMap, HasValue, with_values}
@@ -21,16 +24,14 @@ use Rattle.slotted_model.proofs.Correspondences.FullMaps.{injective_map-keys}
 use Rattle.slotted_model.proofs.Correspondences.Pairs.{Contains-value_of}
 use Rattle.slotted_model.proofs.Represented.Fillings.{slots-ascending}
 use Rattle.slotted_model.proofs.Represented.Full.{full-renamed, full-ascending}
-use Rattle.slotted_model.proofs.Data.Maps.{keys-with_values}
-use Rattle.slotted_model.proofs.Data.Members.{In, In-map, In-of_map, In-Contains, Contains-In}
 use Rattle.slotted_model.proofs.Finds.NormalIds.{used-by}
 use Rattle.slotted_model.proofs.Represented.OtherFillings.{with_values-same}
 use Rattle.slotted_model.proofs.Data.Sets.{below_each}
+use Rattle.slotted_languages.proofs.Counting.{In-value}
 use Rattle.slotted_proofs.proofs.Bridges.{value_of-model}
 use Rattle.slotted_classes.specs.Finding.{IsFindable}
 use Rattle.slotted_classes.specs.Kept.{Kept, nodes_of, entries_of}
-use Rattle.slotted_classes.proofs.ChildIds.{zip-keys_values}
-use Rattle.slotted_classes.proofs.NameMaps.{In-key, In-at, at_In}
+use Rattle.slotted_classes.proofs.NameMaps.{In-at, at_In}
 use Rattle.slotted_lookup.specs.Filling.{FillsId, lack, lacked, named, filled_id, missing, with_fresh}
 
 -- known slots
@@ -73,11 +74,6 @@ pair-value : (m : List (ℕ × ℕ)) (x : ℕ) → HasValue m x → (s : ℕ) ×
 pair-value [] x h = absurd h
 pair-value (p ∷ m) x (inl e) = (p.0, inl (λ i. (p.0, e i)))
 pair-value (p ∷ m) x (inr h) = let r = pair-value m x h in (r.0, inr r.1)
-
--- a name that is there, or none
-cases_found : (o : Option ℕ) → ((x : ℕ) × (o ≡ Some x)) ⊎ (o ≡ None)
-cases_found None = inr refl
-cases_found (Some x) = inl (x, refl)
 
 -- the map of the slots with their names
 
@@ -275,9 +271,9 @@ filled-found k c a v =
     λ x h.
     let has = v.has_slots x (used-by found a.0 x (Contains-In (values_of (find_map found a.0)) x h)) in
     let slot : In x ss = In-Contains ss x (v.within x has) in
-    elim (cases_found (value_of a.1 x)) [
+    elim (some-or_none (value_of a.1 x)) [
       | inl y ↦ sym (value_of-model a.1 x) ∙ (y.1 ∙ (sym (found-pair m x y.0 ascends (kept-pair c a.1 ss x y.0 y.1 slot)) ∙ value_of-model m x))
-      | inr none ↦ absurd (true≢false (sym (subst IsSome none (In-key a.1 x (In-Contains (keys a.1) x has)))))
+      | inr none ↦ absurd (true≢false (sym (subst IsSome none (In-value a.1 x (In-Contains (keys a.1) x has)))))
     ] in
     λ i. (find_class found a.0, composite-at (find_map found a.0) a.1 m at i)
 

@@ -2,6 +2,7 @@
 use Rattle.std.proofs.Common.{◌≡◌, ℕ, List, Option, Some, None, true, length, map, refl, ap, ◌∙◌, sym, subst}
 use Rattle.std.specs.Prelude.{Contains, option_map}
 use Rattle.std.specs.List.{zip}
+use Rattle.slotted_lists.proofs.Maps.{values-beside}
 use Rattle.slotted_theory.specs.Nameless.{DTerm}
 use Rattle.slotted_theory.specs.FiniteMaps.{filled, IsInjectiveMap}
 use Rattle.slotted_theory.specs.Shape.{free_names}
@@ -12,13 +13,12 @@ use Rattle.slotted_nodes.specs.Form.{Form}
 use Rattle.slotted_slots.specs.Maps.{all_differ}
 use Rattle.slotted_languages.specs.NodeTerm.{nameless_node}
 use Rattle.slotted_languages.specs.Shape.{Fits, shape}
-use Rattle.slotted_languages.proofs.Shapes.{injective-shape, shape-same, shape_back, values_of_shape}
+use Rattle.slotted_languages.proofs.Shapes.{injective-shape, shape_back, values_of_shape}
 use Rattle.slotted_model.specs.Applied.{keys, values}
 use Rattle.slotted_model.specs.Ascending.{names}
 use Rattle.slotted_model.specs.Find.{find}
 use Rattle.slotted_model.specs.Rest.{IsRow}
 use Rattle.slotted_model.specs.State.{Row, look_up_normal, name_numbered, row_of, source_with_names}
-use Rattle.slotted_model.proofs.Data.Maps.{keys-with_values}
 use Rattle.slotted_model.proofs.Rebuilding.Rows.{one_row, row_of-some, row_of-there}
 use Rattle.slotted_proofs.proofs.Bridges.{injective_differ}
 use Rattle.slotted_classes.specs.Kept.{Kept, entries_of}
@@ -28,17 +28,9 @@ use Rattle.slotted_hashcons.specs.Filed.{IsNewKey, filed_of}
 use Rattle.slotted_hashcons.specs.FiledRows.{Rows, rows_in, row_of_entry}
 use Rattle.slotted_hashcons.proofs.FiledRows.{filed-row, row-filed}
 use Rattle.slotted_hashcons.specs.WellFiled.{IsKeyed, IsWellFiled, state_in}
+use Rattle.slotted_hashcons.proofs.ShapesOfNodes.{shape-again}
 use Rattle.slotted_languages.proofs.KeysByShapes.{one-key}
-use Rattle.slotted_lookup.proofs.RowNames.{find-beside, numbered-names, slots-named, values-beside}
-
--- the shape of a node is the shape of itself, with the same numbers
-pub shape-again : (c f : Form) (m : List (ℕ × ℕ)) → Fits c → ◌≡◌ {A = Form × List (ℕ × ℕ)} (f, m) (shape c) → ((shape f).0 ≡ f) × (keys m ≡ keys (shape f).1)
-shape-again c f m fits e =
-    let inj : IsInjectiveMap m = subst (λ (p : Form × List (ℕ × ℕ)). IsInjectiveMap p.1) (sym e) (injective-shape c) in
-    let p = shape-same (filled m) (filled-injective m inj) f c (shape_back c f m fits e) in (
-      p.0 ∙ sym (ap (λ (q : Form × List (ℕ × ℕ)). q.0) e),
-      ap (λ (q : Form × List (ℕ × ℕ)). keys q.1) e ∙ (ap keys p.1 ∙ keys-with_values (filled m) (shape f).1),
-    )
+use Rattle.slotted_lookup.proofs.RowNames.{find-beside, numbered-names, slots-named}
 
 module _ (k : Kept) (r : Rows) (well : IsWellFiled k r) (c f : Form) (n : List (ℕ × ℕ)) (fits : Fits c) (key_fits : Fits f) (is : ◌≡◌ {A = Form × List (ℕ × ℕ)} (f, n) (shape c)) where
   abbrev d : DTerm

@@ -2,11 +2,12 @@
 use Rattle.std.proofs.Common.{◌≡◌, ◌≢◌, ◌<◌, ◌≤◌, ℕ, zero, suc, ◌+◌, List, [], ◌∷◌, Some, None, length, take, sym, ◌∙◌, ap, refl, arith}
 use Rattle.std.specs.Prelude.{slice_get}
 use Rattle.std.proofs.lemmas.Bool.{eq-eqb, ne_eqb}
+use Rattle.slotted_lists.proofs.Options.{Some-same}
 use Rattle.slotted_slots.specs.Maps.{value_of, with_pair}
 use Rattle.slotted_slots.proofs.MapLemmas.{with_pair-after}
 use Rattle.slotted_model.specs.Applied.{keys}
 use Rattle.slotted_model.specs.Ascending.{IsAscending, IsBelowAll}
-use Rattle.slotted_model.proofs.Data.Options.{None-Some, Some-same}
+use Rattle.slotted_model.proofs.Data.Options.{None-Some}
 
 below-at : (x : ℕ) (ys : List ℕ) (i t : ℕ) → IsBelowAll x ys → slice_get ys i ≡ Some t → x < t
 below-at x [] i t b e = absurd (None-Some t e)

@@ -2,10 +2,11 @@
 use Rattle.std.proofs.Common.{◌≡◌, ℕ, suc, ◌-◌, ◌<◌, List, [], ◌∷◌, ◌++◌, length, take, drop, refl, slice_index, ap, ◌∙◌, sym, arith, length-append, length-drop, length-take, zero-add, inl, inr}
 use Rattle.std.specs.Prelude.{Option, None, map}
 use Rattle.std.specs.List.{zip}
-use Rattle.std.proofs.lemmas.Grind.{common_steps}
 use Rattle.std.proofs.lemmas.List.{length-map, take-append-drop, take_at, drop_at, take_all, drop_all, take-append-le, drop-append-le}
 use Rattle.std.proofs.lemmas.Bool.{cases_lt}
 use Rattle.std.proofs.Math.Nat.{sub-zero}
+use Rattle.slotted_lists.proofs.Maps.{zip-keys_values, length-values, length-keys, keys-zip, values-zip}
+use Rattle.slotted_lists.proofs.Lists.{first-and_rest}
 use Rattle.slotted_theory.specs.Term.{Term, name}
 use Rattle.slotted_theory.specs.Term as term
 use Rattle.slotted_slots.specs.Maps.{keys, values}
@@ -17,27 +18,17 @@ use Rattle.slotted_languages.specs.Shape.{Fits}
 use Rattle.slotted_languages.proofs.NodeTerms.{own_fits, child_keys_fit, child_rest_fits, bind_inner_fits, bind_rest_fits}
 use Rattle.slotted_model.specs.Applied.{Applied}
 use Rattle.slotted_classes.specs.ChildIds.{ids_in, child_ids}
-use Rattle.slotted_classes.proofs.ChildIds.{length-ids, zip-keys_values}
+use Rattle.slotted_classes.proofs.ChildIds.{length-ids}
 use Rattle.slotted_lookup.specs.Filling.{tree_over, names_over, node_over}
 use Rattle.slotted_languages.specs.Beside.{IsBeside}
-
-length-map_values : (m : List (ℕ × ℕ)) → length (values m) ≡ length m
-length-map_values m = length-map {B = ℕ} m (λ p. p.1)
-
-length-map_keys : (m : List (ℕ × ℕ)) → length (keys m) ≡ length m
-length-map_keys m = length-map {B = ℕ} m (λ p. p.0)
+use Rattle.slotted_languages.proofs.Outlines.{below_binder}
 
 -- as many names as keys
 pub names_fit : (m : List (ℕ × ℕ)) → length (values m) ≡ length (keys m)
-names_fit m = length-map_values m ∙ sym (length-map_keys m)
+names_fit m = length-values m ∙ sym (length-keys m)
 
 length_none : (bs : List Applied) (n : ℕ) → length bs ≡ 0 → (length (take n bs) ≡ 0) × (length (drop n bs) ≡ 0)
 length_none bs n e = (omega (arith, length-take n bs), omega (arith, length-drop n bs))
-
--- a list with a first name
-pub first_name : (xs : List ℕ) (n : ℕ) → length xs ≡ suc n → slice_index xs 0 ∷ drop 1 xs ≡ xs
-first_name [] n h = absurd (omega arith)
-first_name (x ∷ xs) n h = refl
 
 -- over no ids it is as it was
 pub tree_over-none : (t : Tree) (bs : List Applied) → length bs ≡ 0 → tree_over t bs ≡ t
@@ -52,7 +43,7 @@ tree_over-none (bind u r) bs e =
 pub names_over-none : (t : Tree) (xs : List ℕ) (bs : List Applied) → length bs ≡ 0 → length xs ≡ length (scopes t) → names_over t xs bs ≡ xs
 names_over-none leaf xs bs e h = refl
 names_over-none (own r) xs bs e h =
-    ap (λ ys. slice_index xs 0 ∷ ys) (names_over-none r (drop 1 xs) bs e (own_fits r xs h)) ∙ first_name xs (length (scopes r)) h
+    ap (λ ys. slice_index xs 0 ∷ ys) (names_over-none r (drop 1 xs) bs e (own_fits r xs h)) ∙ first-and_rest xs (length (scopes r)) h
 names_over-none (child i ks r) xs [] e h = refl
 names_over-none (child i ks r) xs (b ∷ bs) e h = absurd (omega arith)
 names_over-none (bind u r) xs bs e h =
@@ -60,7 +51,7 @@ names_over-none (bind u r) xs bs e h =
     let n = length_none bs (length (children u)) e in
     (λ i. slice_index xs 0 ∷ names_over-none u (take m (drop 1 xs)) (take (length (children u)) bs) n.0 (bind_inner_fits u r xs h) i
     ++ names_over-none r (drop m (drop 1 xs)) (drop (length (children u)) bs) n.1 (bind_rest_fits u r xs h) i)
-    ∙ (ap (λ ys. slice_index xs 0 ∷ ys) (take-append-drop m (drop 1 xs)) ∙ first_name xs (length (scopes u ++ scopes r)) h)
+    ∙ (ap (λ ys. slice_index xs 0 ∷ ys) (take-append-drop m (drop 1 xs)) ∙ first-and_rest xs (length (scopes u ++ scopes r)) h)
 
 -- there are as many children
 pub length-over : (t : Tree) (bs : List Applied) → length (children (tree_over t bs)) ≡ length (children t)
@@ -103,9 +94,6 @@ over_fits (bind u r) xs bs h =
 -- a tree and names as a form
 part : Tree → List ℕ → Form
 part t xs = record { operator = 0; payloads = []; tree = t; names = xs }
-
-below_binder : (x : ℕ) (g : Form) (k j : ℕ) (ls xs : List ℕ) → k < length (children g.tree) → with_child (bind_form x g) k j ls xs ≡ bind_form x (with_child g k j ls xs)
-below_binder x g k j ls xs h = grind (arith, common_steps)
 
 -- the tree and its names over these ids
 over : Tree → List ℕ → List Applied → Form
@@ -215,17 +203,6 @@ child_ids-over f bs fits e = ids-over f.tree f.names bs fits e
 
 -- over its own children it is as it was
 
-pub keys-zip : (ks vs : List ℕ) → length vs ≡ length ks → keys (zip ks vs) ≡ ks
-keys-zip [] vs h = refl
-keys-zip (k ∷ ks) [] h = absurd (omega arith)
-keys-zip (k ∷ ks) (v ∷ vs) h = ap (λ l. k ∷ l) (keys-zip ks vs (omega arith))
-
-pub values-zip : (ks vs : List ℕ) → length vs ≡ length ks → values (zip ks vs) ≡ vs
-values-zip [] [] h = refl
-values-zip [] (v ∷ vs) h = absurd (omega arith)
-values-zip (k ∷ ks) [] h = absurd (omega arith)
-values-zip (k ∷ ks) (v ∷ vs) h = ap (λ l. v ∷ l) (values-zip ks vs (omega arith))
-
 pub tree_over-own : (t : Tree) (xs : List ℕ) → length xs ≡ length (scopes t) → tree_over t (ids_in t xs) ≡ t
 tree_over-own leaf xs h = refl
 tree_over-own (own r) xs h = ap own (tree_over-own r (drop 1 xs) (own_fits r xs h))
@@ -242,7 +219,7 @@ tree_over-own (bind u r) xs h =
 
 pub names_over-own : (t : Tree) (xs : List ℕ) → length xs ≡ length (scopes t) → names_over t xs (ids_in t xs) ≡ xs
 names_over-own leaf xs h = refl
-names_over-own (own r) xs h = ap (λ ys. slice_index xs 0 ∷ ys) (names_over-own r (drop 1 xs) (own_fits r xs h)) ∙ first_name xs (length (scopes r)) h
+names_over-own (own r) xs h = ap (λ ys. slice_index xs 0 ∷ ys) (names_over-own r (drop 1 xs) (own_fits r xs h)) ∙ first-and_rest xs (length (scopes r)) h
 names_over-own (child i ks r) xs h =
     (λ j. values-zip ks (take (length ks) xs) (child_keys_fit i ks r xs h) j ++ names_over-own r (drop (length ks) xs) (child_rest_fits i ks r xs h) j)
     ∙ take-append-drop (length ks) xs
@@ -256,7 +233,7 @@ names_over-own (bind u r) xs h =
     let l : length us ≡ k = length-ids u inner in
     (λ j. slice_index xs 0 ∷ names_over u inner (take_at us rs k l j) ++ names_over r rest (drop_at us rs k l j))
     ∙ ((λ j. slice_index xs 0 ∷ names_over-own u inner (bind_inner_fits u r xs h) j ++ names_over-own r rest (bind_rest_fits u r xs h) j)
-    ∙ (ap (λ ys. slice_index xs 0 ∷ ys) (take-append-drop n (drop 1 xs)) ∙ first_name xs (length (scopes u ++ scopes r)) h))
+    ∙ (ap (λ ys. slice_index xs 0 ∷ ys) (take-append-drop n (drop 1 xs)) ∙ first-and_rest xs (length (scopes u ++ scopes r)) h))
 
 pub node_over-own : (f : Form) → Fits f → node_over f (child_ids f) ≡ f
 node_over-own f fits = form_ext _ _ refl refl (tree_over-own f.tree f.names fits) (names_over-own f.tree f.names fits)

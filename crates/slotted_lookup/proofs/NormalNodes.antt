@@ -1,6 +1,7 @@
 -- Nodes over ids that are what they find: they are in normal form.
 use Rattle.std.proofs.Common.{◌≡◌, ◌∙◌, ℕ, List, ap, refl, sym}
 use Rattle.std.specs.Prelude.{All}
+use Rattle.slotted_lists.proofs.Each.{Each-from_All}
 use Rattle.slotted_theory.specs.Nameless.{DArgs, DTerm, stop, place, sub, scope}
 use Rattle.slotted_theory.proofs.Values.{child_before, node}
 use Rattle.slotted_nodes.specs.Form.{Form}
@@ -12,7 +13,7 @@ use Rattle.slotted_model.specs.Normal.{normal, normal_args}
 use Rattle.slotted_model.proofs.Finds.Congruence.{child-applied}
 use Rattle.slotted_model.proofs.Finds.NormalIds.{found-renamed}
 use Rattle.slotted_classes.specs.ChildIds.{child_ids}
-use Rattle.slotted_classes.proofs.ChildIds.{Each-from_All, EachChild-node_args}
+use Rattle.slotted_classes.proofs.ChildIds.{EachChild-node_args}
 
 -- a node is in normal form where each child is what it finds
 normal-itself : (found : List Entry) (d : DArgs) → EachChild (λ a. find found a ≡ a) d → normal_args found d ≡ d

@@ -1,39 +1,24 @@
 -- What reports list.
-use Rattle.std.proofs.Common.{◌≡◌, ◌+◌, ◌∙◌, ℕ, List, [], ◌∷◌, ◌++◌, true, false, map, cond, refl, ap, sym, inl, inr, arith}
+use Rattle.std.proofs.Common.{◌≡◌, ◌+◌, ◌∙◌, ℕ, List, [], ◌∷◌, ◌++◌, true, false, map, cond, refl, ap, sym, arith}
 use Rattle.std.specs.Prelude.{Bool}
 use Rattle.std.specs.List.{filter, range_with_len}
 use Rattle.std.specs.Ordering.{nat_cmp}
-use Rattle.std.proofs.lemmas.Bool.{false≢true}
 use Rattle.std.proofs.lemmas.List.{append-nil}
 use Rattle.std.proofs.lemmas.List.FromFn.{filter_of_map_range_with_len_more}
-use Rattle.slotted_slots.specs.Maps.{is_among}
+use Rattle.slotted_lists.proofs.Maps.{is_among-In, In-is_among}
 use Rattle.slotted_slots.specs.Sets.{set_of}
 use Rattle.slotted_slots.proofs.Ascending.{is_among-set_of, IsAscending-set_of}
-use Rattle.slotted_slots.proofs.MapLaws.{is_among-cons, is_among-first, is_among-more}
 use Rattle.slotted_model.specs.Ascending.{ascending}
-use Rattle.slotted_model.proofs.Data.Members.{In}
 use Rattle.slotted_model.proofs.Data.Sets.{IsAscending-ascending, In-ascending, In-of_ascending, same_members}
 use Rattle.slotted_proofs.proofs.Bridges.{ascends}
 
 -- the set of some numbers is the numbers, ascending
 
-among-In : (xs : List ℕ) (x : ℕ) → is_among x xs ≡ true → In x xs
-among-In [] x h = absurd (false≢true h)
-among-In (y ∷ ys) x h = elim (is_among-cons x y ys h) [
-  | inl e ↦ inl (sym e)
-  | inr k ↦ inr (among-In ys x k)
-]
-
-pub In-among : (xs : List ℕ) (x : ℕ) → In x xs → is_among x xs ≡ true
-In-among [] x h = absurd h
-In-among (y ∷ ys) x (inl e) = is_among-first x y ys (sym e)
-In-among (y ∷ ys) x (inr h) = is_among-more x y ys (In-among ys x h)
-
 pub set_of-is : (xs : List ℕ) → set_of nat_cmp xs ≡ ascending xs
 set_of-is xs = same_members (set_of nat_cmp xs) (ascending xs) (ascends (set_of nat_cmp xs) (IsAscending-set_of xs)) (IsAscending-ascending xs)
     (λ z. (
-      λ h. In-ascending z xs (among-In xs z (sym (is_among-set_of z xs) ∙ In-among (set_of nat_cmp xs) z h)),
-      λ h. among-In (set_of nat_cmp xs) z (is_among-set_of z xs ∙ In-among xs z (In-of_ascending z xs h)),
+      λ h. In-ascending z xs (is_among-In xs z (sym (is_among-set_of z xs) ∙ In-is_among (set_of nat_cmp xs) z h)),
+      λ h. is_among-In (set_of nat_cmp xs) z (is_among-set_of z xs ∙ In-is_among xs z (In-of_ascending z xs h)),
     ))
 
 -- one number more that is tried

@@ -1,6 +1,8 @@
 -- The names of a node beside the slots of a row: which names stand there, and that finds do not see their order.
-use Rattle.std.proofs.Common.{◌≡◌, ℕ, true, List, [], ◌∷◌, length, map, fold, refl, ap, ◌∙◌, sym, subst, inl, inr, arith}
+use Rattle.std.proofs.Common.{◌≡◌, ℕ, true, List, [], ◌∷◌, length, map, fold, refl, ap, ◌∙◌, sym, subst, inl, inr}
 use Rattle.std.specs.List.{zip}
+use Rattle.slotted_lists.proofs.Members.{In}
+use Rattle.slotted_lists.proofs.Maps.{keys-beside}
 use Rattle.slotted_theory.specs.FiniteMaps as model
 use Rattle.slotted_theory.specs.Nameless.{DTerm}
 use Rattle.slotted_theory.specs.Shape.{free_names, number_in, shape}
@@ -11,7 +13,6 @@ use Rattle.slotted_model.specs.Applied.{keys, values}
 use Rattle.slotted_model.specs.Ascending.{names}
 use Rattle.slotted_model.specs.Find.{Entry, find, find_class, find_map}
 use Rattle.slotted_model.specs.State.{name_numbered}
-use Rattle.slotted_model.proofs.Data.Members.{In}
 use Rattle.slotted_model.proofs.Rebuilding.Rows.{name_numbered-at}
 use Rattle.slotted_proofs.proofs.Bridges.{composite-agrees, value_of-model}
 use Rattle.slotted_classes.specs.Names.{between, with_pairs}
@@ -34,17 +35,6 @@ slots-named name [] [] = refl
 slots-named name [] (v ∷ vs) = refl
 slots-named name (k ∷ ks) [] = refl
 slots-named name (k ∷ ks) (v ∷ vs) = ap (λ r. (v, name k) ∷ r) (slots-named name ks vs)
-
-pub keys-beside : (ks vs : List ℕ) → length ks ≡ length vs → keys (zip ks vs) ≡ ks
-keys-beside [] vs e = refl
-keys-beside (k ∷ ks) [] e = absurd (omega (arith, e))
-keys-beside (k ∷ ks) (v ∷ vs) e = ap (λ r. k ∷ r) (keys-beside ks vs (omega (arith, e)))
-
-pub values-beside : (ks vs : List ℕ) → length ks ≡ length vs → values (zip ks vs) ≡ vs
-values-beside [] [] e = refl
-values-beside [] (v ∷ vs) e = absurd (omega (arith, e))
-values-beside (k ∷ ks) [] e = absurd (omega (arith, e))
-values-beside (k ∷ ks) (v ∷ vs) e = ap (λ r. v ∷ r) (values-beside ks vs (omega (arith, e)))
 
 -- pairs put into a map one after another are the map of the pairs
 with_pairs-fold : (m ps : List (ℕ × ℕ)) → with_pairs m ps ≡ fold (λ n p. with_pair n p.0 p.1) m ps

@@ -1,5 +1,5 @@
 -- All laws of the machine.
-use Rattle.slotted_model.proofs.Data.Members.{In-Contains}
+use Rattle.slotted_lists.proofs.Members.{In-Contains}
 use Rattle.slotted_match_machine.specs.Machine.{all_answers}
 use Rattle.slotted_match_machine.specs.MachineClaims.{MachineLaws}
 use Rattle.slotted_match_machine.proofs.MissingRows.{nothing-found}

@@ -9,6 +9,7 @@ use Rattle.std.proofs.lemmas.List.Elements.{Contains-get_or}
 use Rattle.std.proofs.lemmas.Simd.{map-map}
 use Rattle.std.proofs.Math.ListN.{get_or-append}
 use Rattle.std.proofs.Math.Seq.{get_or-append_seam}
+use Rattle.slotted_lists.proofs.Members.{In, In-append, In-Contains, Contains-In, In-left, In-right, In-filter}
 use Rattle.slotted_theory.specs.Decided.{numbers_eq}
 use Rattle.slotted_theory.specs.Nameless.{DTerm, stop}
 use Rattle.slotted_theory.specs.Renaming.{IsInjective}
@@ -21,7 +22,6 @@ use Rattle.slotted_model.specs.Ids.{term_eq}
 use Rattle.slotted_model.specs.State.{Row, State}
 use Rattle.slotted_model.specs.Rest.{AtRest}
 use Rattle.slotted_model.proofs.Represented.Ids.{term_eq-true, term_eq-same}
-use Rattle.slotted_model.proofs.Data.Members.{In, In-append, In-Contains, Contains-In, In-left, In-right}
 use Rattle.slotted_model_rules.specs.Patterns.{Pattern, PatternArgs, pattern_node, variable}
 use Rattle.slotted_model_rules.specs.Matcher.{NodeArgs, written_names, MatchState, value_at, walked, IsRowFor, Gives, IfThere}
 use Rattle.slotted_model_rules.specs.Goals.{FoundAll, goals_of, AtRow, after_walk, own_slots, own_names, paired_all, outlines_agree, has_outline}
@@ -37,7 +37,7 @@ use Rattle.slotted_match_machine.specs.Index.{OneByOne, IsIndexRow, rows_of_clas
 use Rattle.slotted_match_machine.specs.Machine.{Occurrence, no_occurrence, same_occurrence, MachineState, Answer, occurrence_at, new_names, named, child_occurrence, entered, after_row, with_variable, rows_in, if_there, answers_of}
 use Rattle.slotted_match_machine.specs.Programs.{child_patterns, placed, IsProgramFor, ends, compares, takes, enters}
 use Rattle.slotted_match_machine.specs.Readings.{read_id, read_pairs, IsWholeId, IsReadAs}
-use Rattle.slotted_match_machine.proofs.Lists.{one_by_one-both, one_by_one-append, filter-twice, In-filter, gives-beside}
+use Rattle.slotted_match_machine.proofs.Lists.{one_by_one-both, one_by_one-append, filter-twice, gives-beside}
 use Rattle.slotted_match_machine.proofs.NamedNodes.{own-with}
 use Rattle.slotted_match_machine.proofs.Occurrences.{IsOccurrenceOf, is-read, is-whole, class-lives, class-in_range, same-ids, other-ids}
 use Rattle.slotted_match_machine.proofs.ReadPairs.{all-read}

@@ -2,7 +2,7 @@
 use Rattle.std.proofs.Common.{◌≡◌, List, [], ◌∷◌, ◌++◌, length, map, Bool, true, false, sym, ◌∙◌, ap, refl, subst, inl, inr, arith}
 use Rattle.std.specs.Prelude.{cond, filter, ◌&&◌}
 use Rattle.std.specs.List.{zip, flat_map}
-use Rattle.slotted_model.proofs.Data.Members.{In, In-left, In-right, In-append}
+use Rattle.slotted_lists.proofs.Members.{In, In-left, In-right, In-append}
 use Rattle.slotted_model_rules.specs.Matcher.{Gives}
 use Rattle.slotted_match_machine.specs.Index.{OneByOne}
 
@@ -72,15 +72,6 @@ filter-twice p q (x ∷ xs) = go (p x) refl (filter-twice p q xs)
     go false e rest =
         (λ i. cond (e i && q x) (x ∷ filter (λ y. p y && q y) xs) (filter (λ y. p y && q y) xs))
         ∙ (rest ∙ sym (λ i. filter q (cond (e i) (x ∷ filter p xs) (filter p xs))))
-
-pub In-filter : {A : Type 0} (p : A → Bool) (xs : List A) (x : A) → In x (filter p xs) → In x xs × (p x ≡ true)
-In-filter p [] x i = absurd i
-In-filter p (y ∷ xs) x i = go (p y) refl i (λ j. In-filter p xs x j)
-  where
-    go : (b : Bool) → p y ≡ b → In x (cond b (y ∷ filter p xs) (filter p xs)) → (In x (filter p xs) → In x xs × (p x ≡ true)) → In x (y ∷ xs) × (p x ≡ true)
-    go true e (inl same) later = (inl same, ap p same ∙ e)
-    go true e (inr j) later = let r = later j in (inr r.0, r.1)
-    go false e j later = let r = later j in (inr r.0, r.1)
 
 -- members of a list of lists
 pub In-flat_map : {A B : Type 0} (f : A → List B) (xs : List A) (x : A) (y : B) → In x xs → In y (f x) → In y (flat_map f xs)

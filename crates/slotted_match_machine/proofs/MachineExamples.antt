@@ -2,8 +2,8 @@
 use Rattle.std.proofs.Common.{◌≡◌, ℕ, zero, suc, ◌+◌, ◌<◌, List, [], ◌∷◌, length, sym, ◌∙◌, ap, refl, subst, inl, inr, arith}
 use Rattle.std.specs.Prelude.{Vec, ◌^◌, Contains, slice_index, slice_index_or}
 use Rattle.std.specs.declared.alloc.Global.{Global}
+use Rattle.slotted_lists.proofs.Contained.{contains_head, contains_cases, Contains-nil}
 use denote.RawPtr.{null_ptr}
-use Rattle.slotted_theory.proofs.Lists.{contains_head, contains_cases, Contains-nil}
 use Rattle.slotted_model.specs.Find.{IsLive, used_slots}
 use Rattle.slotted_model.specs.State.{Row}
 use Rattle.slotted_model.proofs.Examples.CompletenessExamples.{one_of}

@@ -1,30 +1,23 @@
 -- Where a node of the pattern has no row nothing is found.
-use Rattle.std.proofs.Common.{◌≡◌, ℕ, ◌<◌, List, [], ◌++◌, Bool, true, false, length, refl, sym, ◌∙◌, ap, inl, inr}
+use Rattle.std.proofs.Common.{◌≡◌, ℕ, ◌<◌, List, [], ◌++◌, Bool, true, false, length, refl, sym, ◌∙◌, inl, inr}
 use Rattle.std.specs.Prelude.{Contains}
-use Rattle.slotted_theory.specs.FiniteMaps.{filled}
-use Rattle.slotted_theory.proofs.Lists.{Contains-nil}
+use Rattle.slotted_lists.proofs.Contained.{Contains-nil}
+use Rattle.slotted_lists.proofs.Members.{In, In-Contains}
 use Rattle.slotted_model.specs.Applied.{Applied}
 use Rattle.slotted_model.specs.Find.{IsLive}
-use Rattle.slotted_model.specs.State.{Row, State, filed_node}
+use Rattle.slotted_model.specs.State.{Row, State}
 use Rattle.slotted_model.specs.Rest.{AtRest}
-use Rattle.slotted_model.proofs.Data.Members.{In, In-Contains}
 use Rattle.slotted_model.proofs.Data.Options.{None-Some}
 use Rattle.slotted_model_rules.specs.Patterns.{Pattern, PatternArgs, pattern_node, variable, replacing, no_argument, own_name, child_pattern, binding}
-use Rattle.slotted_model_rules.specs.Matcher.{NodeArgs, written_names, rest_of, id_of_first, inside_first, MatchState, IsNodeOf, Found, FoundIn, class_id, start_at}
+use Rattle.slotted_model_rules.specs.Matcher.{NodeArgs, written_names, rest_of, id_of_first, inside_first, MatchState, Found, FoundIn, class_id, start_at}
 use Rattle.slotted_model_rules.specs.Goals.{outlines_agree, has_outline}
 use Rattle.slotted_model_rules.specs.Rules.{IsRead, Searches}
 use Rattle.slotted_model_rules.proofs.Matching.Answering.{AtRow, at_row}
 use Rattle.slotted_model_rules.proofs.Matching.ClassIds.{class-valid}
-use Rattle.slotted_model_rules.proofs.Matching.FlatWalks.{no-walk, outline-unnamed, outline-moved}
+use Rattle.slotted_model_rules.proofs.Matching.FlatWalks.{no-walk, node-outline}
 use Rattle.slotted_model_rules.proofs.Matching.Running.{a-run}
 use Rattle.slotted_model_rules.proofs.Matching.Walking.{member-given}
 use Rattle.slotted_match_machine.specs.Index.{HasOutline, LacksRow, LacksRowIn}
-
--- a node of the matcher's has the outline of its row
-node-outline : (g : State) (seen : List ℕ) (r : Row) (a : Applied) (n : NodeArgs) (args : PatternArgs) → IsNodeOf g seen r a n → outlines_agree args n ≡ has_outline args r.shape.args
-node-outline g seen r a n args is =
-    sym (outline-unnamed (λ y. y) args n)
-    ∙ (ap (has_outline args) is.form ∙ (outline-moved (filled is.id.1) args (filed_node r).args ∙ outline-moved (filled r.slots) args r.shape.args))
 
 module _ (g : State) (order : List Row) where
   -- the row beside which a node was found has its outline

@@ -4,6 +4,8 @@ use Rattle.std.specs.Prelude.{◌⊎◌}
 use Rattle.std.proofs.lemmas.Bool.{cases_eq}
 use Rattle.std.proofs.lemmas.List.{map-append}
 use Rattle.std.proofs.Math.Nat.{suc-ne-zero, suc_inj}
+use Rattle.slotted_lists.proofs.Members.{In, In-left, In-right, In-append, In-map, In-of_map, In-Contains, Contains-In}
+use Rattle.slotted_lists.proofs.Maps.{values-with_values}
 use Rattle.slotted_theory.specs.Nameless.{extend, lift, scope, place, moved, moved_args}
 use Rattle.slotted_theory.specs.Shape.{outside, free_names}
 use Rattle.slotted_theory.proofs.Names.{extend-same, extend-other}
@@ -11,8 +13,7 @@ use Rattle.slotted_theory.proofs.Values.{child_before}
 use Rattle.slotted_model.specs.Applied.{Applied, values, renamed_id, as_term}
 use Rattle.slotted_model.specs.Correspondence.{AllDifferent}
 use Rattle.slotted_model.proofs.Represented.Children.{free_names-places, moved-as_term}
-use Rattle.slotted_model.proofs.Data.Maps.{values-with_values}
-use Rattle.slotted_model.proofs.Data.Members.{In, In-left, In-right, In-append, In-map, In-of_map, In-outside, In-inside, In-Contains, Contains-In}
+use Rattle.slotted_model.proofs.Data.Members.{In-outside, In-inside}
 use Rattle.slotted_model_rules.specs.Matcher.{NodeArgs, no_more, a_name, an_id, a_binder, unnamed, written_names, bound_names}
 use Rattle.slotted_model_rules.specs.Goals.{own_names}
 use Rattle.slotted_model_rules.proofs.Matching.AllSlots.{renamed-agrees}

@@ -1,27 +1,24 @@
 -- At rest the ids of each node that the matcher visits are valid and in normal form.
 use Rattle.std.proofs.Common.{◌≡◌, ℕ, List, sym, ◌∙◌, ap, subst, inl, inr}
+use Rattle.slotted_lists.proofs.Members.{In, In-append}
 use Rattle.slotted_theory.specs.Nameless.{DTerm, extend}
 use Rattle.slotted_theory.specs.Renaming.{IsInjective}
-use Rattle.slotted_theory.proofs.ByBijection.{moved-injective}
 use Rattle.slotted_theory.proofs.Names.{extend-injective}
-use Rattle.slotted_model.specs.Applied.{Applied, renamed_id, as_term, EachChild}
+use Rattle.slotted_model.specs.Applied.{Applied, renamed_id, EachChild}
 use Rattle.slotted_model.specs.Find.{find}
 use Rattle.slotted_model.specs.ProofList.{node_of}
 use Rattle.slotted_model.specs.State.{Row, State}
 use Rattle.slotted_model.specs.Rest.{IsValidIn, AtRest}
-use Rattle.slotted_model.proofs.Represented.Children.{EachChild-map, moved-as_term}
+use Rattle.slotted_model.proofs.Represented.Children.{EachChild-map}
 use Rattle.slotted_model.proofs.Rebuilding.Events.{normal-found}
 use Rattle.slotted_model.proofs.Represented.Folds.{as_term-same}
-use Rattle.slotted_model.proofs.Data.Members.{In, In-append}
 use Rattle.slotted_model.proofs.Finds.NormalIds.{found-renamed}
 use Rattle.slotted_model.proofs.Rebuilding.RowNodes.{row_node, row-normal, node-valid}
 use Rattle.slotted_model_rules.specs.Matcher.{NodeArgs, no_more, a_name, an_id, a_binder, unnamed, IsNodeOf}
 use Rattle.slotted_model_rules.proofs.Patterns.LookingUp.{IsFoundId}
 use Rattle.slotted_model_rules.proofs.Matching.ValidValues.{IdsValid, ids-valid}
+use Rattle.slotted_model_rules.proofs.Matching.AllSlots.{renamed-injective}
 use Rattle.slotted_match_machine.specs.Index.{ids_of}
-
-renamed-apart : (f : ℕ → ℕ) → IsInjective f → (a b : Applied) → renamed_id f a ≡ renamed_id f b → a ≡ b
-renamed-apart f inj a b e = as_term-same a b (moved-injective f inj (as_term a) (as_term b) (moved-as_term f a ∙ (ap as_term e ∙ sym (moved-as_term f b))))
 
 module _ (g : State) where
   ids-found : (κ : ℕ → ℕ) → IsInjective κ → (n : NodeArgs) → EachChild (λ a. find g.found a ≡ a) (unnamed κ n) → (a : Applied) → In a (ids_of n) → find g.found a ≡ a
@@ -30,7 +27,7 @@ module _ (g : State) where
   ids-found κ inj (an_id b rest) c a (inl e) =
       let same : renamed_id κ b ≡ c.0.0 = as_term-same (renamed_id κ b) c.0.0 c.0.1 in
       let found : find g.found (renamed_id κ b) ≡ renamed_id κ b = ap (find g.found) same ∙ (c.0.2 ∙ sym same) in
-      let here : find g.found b ≡ b = renamed-apart κ inj (find g.found b) b (sym (found-renamed g.found κ b) ∙ found) in
+      let here : find g.found b ≡ b = renamed-injective κ inj (find g.found b) b (sym (found-renamed g.found κ b) ∙ found) in
       ap (find g.found) e ∙ (here ∙ sym e)
   ids-found κ inj (an_id b rest) c a (inr i) = ids-found κ inj rest c.1 a i
   ids-found κ inj (a_binder x inner rest) c a i = elim (In-append a (ids_of inner) (ids_of rest) i) [

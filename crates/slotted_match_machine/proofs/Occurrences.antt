@@ -4,10 +4,12 @@ use Rattle.std.specs.Prelude.{Contains, slice_index, nat_eq}
 use Rattle.std.specs.List.{zip}
 use Rattle.std.proofs.lemmas.Bool.{eqb-true, eq-eqb, and_parts, and_from, false≢true}
 use Rattle.std.proofs.lemmas.List.{length-map}
+use Rattle.slotted_lists.proofs.Contained.{contains_head, contains_tail, Contains-map}
+use Rattle.slotted_lists.proofs.Maps.{zip-keys_values}
+use Rattle.slotted_lists.proofs.Lists.{map-injective}
 use Rattle.slotted_theory.specs.Decided.{numbers_eq}
 use Rattle.slotted_theory.specs.Renaming.{IsInjective}
 use Rattle.slotted_theory.proofs.Decides.{numbers_eq-true, numbers_eq-same}
-use Rattle.slotted_theory.proofs.Lists.{contains_head, contains_tail, Contains-map}
 use Rattle.slotted_model.specs.Applied.{Applied, keys, values}
 use Rattle.slotted_model.specs.Correspondence.{AllDifferent}
 use Rattle.slotted_model.specs.Find.{IsLive, used_slots, find, Linked}
@@ -25,10 +27,6 @@ pub record IsOccurrenceOf (g : State) (f : ℕ → ℕ) (a : Applied) (o : Occur
   pub class : a.0 ≡ o.class
   pub names : values a.1 ≡ map f o.names
 
-pub zip-map : (m : List (ℕ × ℕ)) → zip (keys m) (values m) ≡ m
-zip-map [] = refl
-zip-map (p ∷ m) = ap (λ l. p ∷ l) (zip-map m)
-
 -- the pair at each place of a map
 pub pair-at : (m : List (ℕ × ℕ)) (p : ℕ) → p < length (keys m) → Contains m (slice_index (keys m) p, slice_index (values m) p)
 pair-at [] p h = absurd (omega arith)
@@ -38,16 +36,6 @@ pair-at (q ∷ m) (suc p) h = contains_tail q m (slice_index (keys m) p, slice_i
 pub same-length : (m : List (ℕ × ℕ)) → length (keys m) ≡ length (values m)
 same-length [] = refl
 same-length (p ∷ m) = ap suc (same-length m)
-
--- numbers that f tells apart have other names if they differ
-pub named-apart : (f : ℕ → ℕ) → IsInjective f → (xs ys : List ℕ) → map f xs ≡ map f ys → xs ≡ ys
-named-apart f inj [] [] e = refl
-named-apart f inj [] (y ∷ ys) e = absurd (cc)
-named-apart f inj (x ∷ xs) [] e = absurd (cc)
-named-apart f inj (x ∷ xs) (y ∷ ys) e =
-    let p : f x ≡ f y = cc in
-    let q : map f xs ≡ map f ys = cc in
-    λ i. inj x y p i ∷ named-apart f inj xs ys q i
 
 -- different names have different numbers
 different-from : (f : ℕ → ℕ) (xs : List ℕ) → AllDifferent (map f xs) → AllDifferent xs
@@ -66,7 +54,7 @@ module _ (g : State) (rest : AtRest g) (f : ℕ → ℕ) (a : Applied) (o : Occu
 
   -- the id is that which is read
   pub is-read : a ≡ read_id g f o
-  is-read = (λ i. (is.class i, sym (zip-map a.1) i)) ∙ (λ i. (o.class, zip (slots-at i) (is.names i)))
+  is-read = (λ i. (is.class i, sym (zip-keys_values a.1) i)) ∙ (λ i. (o.class, zip (slots-at i) (is.names i)))
 
   pub class-lives : IsLive g.found o.class
   class-lives = subst (IsLive g.found) (ap (λ (b : Applied). b.0) is.found ∙ is.class) (found-class_live g.nodes g.found linked a is.valid)
@@ -109,6 +97,6 @@ module _ (g : State) (rest : AtRest g) (f : ℕ → ℕ) (inj : IsInjective f) (
   pub other-ids : same_occurrence o p ≡ false → a ≢ b
   other-ids e q =
       let c : o.class ≡ p.class = sym is.class ∙ (ap (λ (x : Applied). x.0) q ∙ it.class) in
-      let n : o.names ≡ p.names = named-apart f inj o.names p.names (sym is.names ∙ (ap (λ (x : Applied). values x.1) q ∙ it.names)) in
+      let n : o.names ≡ p.names = map-injective f inj o.names p.names (sym is.names ∙ (ap (λ (x : Applied). values x.1) q ∙ it.names)) in
       let t : same_occurrence o p ≡ true = and_from (nat_eq o.class p.class) (numbers_eq o.names p.names) (eq-eqb o.class p.class c) (ap (numbers_eq o.names) (sym n) ∙ numbers_eq-same o.names) in
       false≢true (sym e ∙ t)

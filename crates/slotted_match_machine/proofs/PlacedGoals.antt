@@ -7,10 +7,10 @@ use Rattle.std.proofs.lemmas.List.{length_push}
 use Rattle.std.proofs.lemmas.Simd.{map-map}
 use Rattle.std.proofs.Math.ListN.{get_or-append}
 use Rattle.std.proofs.Math.Seq.{get_or-append_seam}
+use Rattle.slotted_lists.proofs.Members.{In, In-map, In-of_map}
+use Rattle.slotted_lists.proofs.Maps.{values-with_values}
 use Rattle.slotted_model.specs.Applied.{Applied, values, renamed_id}
 use Rattle.slotted_model.specs.State.{Row, State}
-use Rattle.slotted_model.proofs.Data.Maps.{values-with_values}
-use Rattle.slotted_model.proofs.Data.Members.{In, In-map, In-of_map}
 use Rattle.slotted_model_rules.specs.Patterns.{Pattern, PatternArgs, no_argument, own_name, child_pattern, binding}
 use Rattle.slotted_model_rules.specs.Matcher.{NodeArgs, no_more, a_name, an_id, a_binder}
 use Rattle.slotted_model_rules.specs.Goals.{goals_of, outlines_agree}

@@ -5,8 +5,8 @@ use Rattle.std.specs.List.{range_with_len}
 use Rattle.std.proofs.lemmas.List.{get_or_past}
 use Rattle.std.proofs.lemmas.Grind.{get_or_default_zero}
 use Rattle.std.proofs.lemmas.List.Elements.{Contains-get_or}
+use Rattle.slotted_lists.proofs.Contained.{above, Contains-below}
 use Rattle.slotted_theory.specs.Renaming.{IsInjective}
-use Rattle.slotted_theory.proofs.Lists.{above, Contains-below}
 use Rattle.slotted_model.specs.Correspondence.{AllDifferent}
 use Rattle.slotted_match_machine.specs.Machine.{names_for, new_names}
 use Rattle.slotted_match_machine.specs.Readings.{name_at}

@@ -4,6 +4,8 @@ use Rattle.std.specs.Prelude.{Contains, slice_index_or}
 use Rattle.std.specs.List.{zip, flat_map}
 use Rattle.std.proofs.lemmas.List.{get_or_default}
 use Rattle.std.proofs.lemmas.List.Elements.{Contains-get_or}
+use Rattle.slotted_lists.proofs.Members.{In, In-left, In-right, In-map, In-of_map, In-Contains, Contains-In}
+use Rattle.slotted_lists.proofs.Options.{Some-same}
 use Rattle.slotted_theory.specs.FiniteMaps.{with_values}
 use Rattle.slotted_theory.specs.Renaming.{IsInjective}
 use Rattle.slotted_theory.proofs.Bijections.{to-injective}
@@ -12,9 +14,7 @@ use Rattle.slotted_model.specs.Find.{IsLive, used_slots, find}
 use Rattle.slotted_model.specs.State.{Row, State}
 use Rattle.slotted_model.specs.Rest.{AtRest}
 use Rattle.slotted_model.proofs.Correspondences.Matching.{Takes, IsOneToOne, takes_pairs}
-use Rattle.slotted_model.proofs.Data.Members.{In, In-left, In-right, In-map, In-of_map, In-Contains, Contains-In}
 use Rattle.slotted_model.proofs.Finds.NormalIds.{found-renamed}
-use Rattle.slotted_model.proofs.Data.Options.{Some-same}
 use Rattle.slotted_model_rules.specs.Conditions.{Values}
 use Rattle.slotted_model_rules.specs.Patterns.{Pattern}
 use Rattle.slotted_model_rules.specs.Matcher.{MatchState, value_at, Reads}

@@ -8,7 +8,7 @@ use Rattle.std.proofs.lemmas.List.{length_push}
 use Rattle.std.proofs.lemmas.List.Elements.{Contains-get_or}
 use Rattle.std.proofs.Math.ListN.{get_or-append}
 use Rattle.std.proofs.Math.Seq.{get_or-append_seam}
-use Rattle.slotted_model.proofs.Data.Members.{In, In-left, In-right, In-append, In-Contains, Contains-In}
+use Rattle.slotted_lists.proofs.Members.{In, In-left, In-right, In-append, In-Contains, Contains-In}
 use Rattle.slotted_model_rules.specs.Patterns.{Pattern, PatternArgs, no_argument, own_name, child_pattern, binding}
 use Rattle.slotted_match_machine.specs.declared.program.Source.{Source}
 use Rattle.slotted_match_machine.specs.declared.program.Step.{Step}

@@ -2,6 +2,7 @@
 use Rattle.std.proofs.Common.{◌≡◌, ◌≢◌, ℕ, zero, suc, ◌+◌, ◌<◌, ◌≤◌, List, length, map, sym, ◌∙◌, ap, refl, subst, inl, inr, arith}
 use Rattle.std.specs.Prelude.{◌⊎◌, Contains, slice_index}
 use Rattle.std.proofs.lemmas.List.Elements.{Contains-get_or}
+use Rattle.slotted_lists.proofs.Members.{In, In-map, In-of_map, In-Contains, Contains-In}
 use Rattle.slotted_theory.specs.Nameless.{moved_args}
 use Rattle.slotted_theory.specs.FiniteMaps.{filled}
 use Rattle.slotted_theory.specs.Renaming.{IsInjective}
@@ -19,7 +20,6 @@ use Rattle.slotted_model.specs.Rest.{IsRow, AtRest}
 use Rattle.slotted_model.proofs.Correspondences.Pairs.{Contains-value}
 use Rattle.slotted_model.proofs.Correspondences.PartialInjections.{one_partner}
 use Rattle.slotted_model.proofs.Finds.Finding.{leads, find_map-partial}
-use Rattle.slotted_model.proofs.Data.Members.{In, In-map, In-of_map, In-Contains, Contains-In}
 use Rattle.slotted_model_rules.specs.Matcher.{NodeArgs, unnamed, written_names, bound_names, IsNodeOf}
 use Rattle.slotted_model_rules.specs.Goals.{outlines_agree, has_outline}
 use Rattle.slotted_model_rules.proofs.Matching.FlatWalks.{outline-unnamed, outline-moved}

@@ -2,13 +2,13 @@
 use Rattle.std.proofs.Common.{◌≡◌, ℕ, List, [], ◌∷◌, ◌++◌, length, Option, Some, None, Bool, true, false, sym, ◌∙◌, refl, subst, inl, inr}
 use Rattle.std.specs.Prelude.{cond, nat_eq, nat_lt, option_map, option_and_then, slice_index_or}
 use Rattle.std.proofs.lemmas.Bool.{false≢true}
+use Rattle.slotted_lists.proofs.Members.{In, In-Contains, Contains-In}
 use Rattle.slotted_theory.specs.FiniteMaps.{value_of}
 use Rattle.slotted_model.specs.Applied.{keys, values}
 use Rattle.slotted_model.specs.Correspondence.{AllDifferent, has_slot}
 use Rattle.slotted_model.specs.State.{Row, State}
 use Rattle.slotted_model.specs.Rest.{AtRest}
 use Rattle.slotted_model.proofs.Correspondences.Pairs.{Contains-of_key, value_of-found}
-use Rattle.slotted_model.proofs.Data.Members.{In, In-Contains, Contains-In}
 use Rattle.slotted_model.proofs.Data.Options.{None-Some}
 use Rattle.slotted_model.proofs.Complete.Spreading.{in-has_slot}
 use Rattle.slotted_model_rules.specs.Matcher.{paired_with, paired}

@@ -1,9 +1,11 @@
 -- Whole ids, with different names for their numbers, are valid and in normal form.
-use Rattle.std.proofs.Common.{◌≡◌, ℕ, List, [], ◌∷◌, length, map, sym, ◌∙◌, ap, refl, subst, arith}
+use Rattle.std.proofs.Common.{◌≡◌, ℕ, List, [], ◌∷◌, length, map, sym, ◌∙◌, ap, subst}
 use Rattle.std.specs.Prelude.{Contains}
 use Rattle.std.specs.List.{zip}
 use Rattle.std.specs.Map.{keys_of, values_of}
 use Rattle.std.proofs.lemmas.List.{length-map}
+use Rattle.slotted_lists.proofs.Members.{Contains-In}
+use Rattle.slotted_lists.proofs.Maps.{keys-beside, values-beside}
 use Rattle.slotted_theory.specs.FiniteMaps.{IsInjectiveMap}
 use Rattle.slotted_model.specs.Applied.{Applied, keys, values}
 use Rattle.slotted_model.specs.Ascending.{IsAscending}
@@ -16,7 +18,6 @@ use Rattle.slotted_model.proofs.Correspondences.PartialInjections.{identity-comp
 use Rattle.slotted_model.proofs.Correspondences.Pairs.{Contains-value}
 use Rattle.slotted_model.proofs.Finds.Finding.{leads, find_class-live, find_map-live}
 use Rattle.slotted_model.proofs.Data.Maps.{In-values}
-use Rattle.slotted_model.proofs.Data.Members.{Contains-In}
 use Rattle.slotted_model.proofs.Finds.NormalIds.{keys-identity, used-live, valid-map}
 use Rattle.slotted_model.proofs.Data.Sets.{IsAscending-ascending}
 use Rattle.slotted_model_rules.specs.Matcher.{class_id}
@@ -24,18 +25,6 @@ use Rattle.slotted_model_rules.proofs.Matching.ClassIds.{class-valid}
 use Rattle.slotted_match_machine.specs.Machine.{Occurrence}
 use Rattle.slotted_match_machine.specs.Readings.{read_id, IsWholeId}
 use Rattle.slotted_match_machine.proofs.NamedNodes.{different-with}
-
--- keys and values of lists of one length, pair by pair
-pub keys-zip : (S xs : List ℕ) → length S ≡ length xs → keys (zip S xs) ≡ S
-keys-zip [] xs e = refl
-keys-zip (s ∷ S) [] e = absurd (omega arith)
-keys-zip (s ∷ S) (x ∷ xs) e = ap (λ l. s ∷ l) (keys-zip S xs (omega arith))
-
-pub values-zip : (S xs : List ℕ) → length S ≡ length xs → values (zip S xs) ≡ xs
-values-zip [] [] e = refl
-values-zip [] (x ∷ xs) e = absurd (omega arith)
-values-zip (s ∷ S) [] e = absurd (omega arith)
-values-zip (s ∷ S) (x ∷ xs) e = ap (λ l. x ∷ l) (values-zip S xs (omega arith))
 
 -- a map whose values differ is injective
 different-injective : (m : List (ℕ × ℕ)) → AllDifferent (values m) → IsInjectiveMap m
@@ -68,10 +57,10 @@ module _ (g : State) (rest : AtRest g) where
       count = sym (length-map o.names name ∙ whole.count)
 
       key : keys (zip S (map name o.names)) ≡ S
-      key = keys-zip S (map name o.names) count
+      key = keys-beside S (map name o.names) count
 
       named : values (zip S (map name o.names)) ≡ map name o.names
-      named = values-zip S (map name o.names) count
+      named = values-beside S (map name o.names) count
 
       own : IsValidIn g (class_id g o.class)
       own = (class-valid g rest o.class whole.in_range).0

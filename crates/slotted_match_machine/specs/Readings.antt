@@ -9,7 +9,7 @@
 --     IsWholeAnswer g variables x   an answer has a whole id for each variable, and no number and no slot is paired twice
 use Rattle.std.specs.Prelude.{◌≡◌, ℕ, ◌+◌, ◌<◌, List, [], ◌++◌, length, map, Contains, Some, slice_index_or}
 use Rattle.std.specs.List.{zip, flat_map}
-use Rattle.slotted_theory.proofs.Lists.{above}
+use Rattle.slotted_lists.proofs.Contained.{above}
 use Rattle.slotted_model.specs.Applied.{Applied}
 use Rattle.slotted_model.specs.Correspondence.{AllDifferent, IsInjectiveOn}
 use Rattle.slotted_model.specs.Find.{IsLive, used_slots}

@@ -1,11 +1,11 @@
 -- The ids of an answer, and what is known of them.
 use Rattle.std.proofs.Common.{◌≡◌, ℕ, ◌+◌, ◌<◌, List, [], ◌∷◌, ◌++◌, length, take, get_or, map, sym, ap, ◌∙◌, append_assoc}
-use Rattle.std.specs.Prelude.{Contains}
 use Rattle.std.specs.List.{zip, flat_map}
 use Rattle.std.proofs.lemmas.List.Folds.{flat_map-map}
 use Rattle.slotted_match_machine.specs.declared.answer.Occurrence.{Occurrence as OccurrenceRead}
 use Rattle.slotted_match_machine.specs.Answers.{occurrence_in}
-use Rattle.std.proofs.lemmas.List.{take_more, take_more_set, map-append, get_or_default}
+use Rattle.std.proofs.lemmas.List.{take_more, take_more_set, map-append}
+use Rattle.slotted_lists.proofs.Maps.{zip-keys_values, length-keys}
 use Rattle.slotted_slots.specs.Maps.{keys, values, with_value_at, values-with_value_at}
 use Rattle.slotted_model.specs.Applied.{Applied}
 use Rattle.slotted_model.specs.Find.{used_slots}
@@ -13,8 +13,6 @@ use Rattle.slotted_model.proofs.Finds.NormalIds.{used-live}
 use Rattle.slotted_classes.specs.Kept.{Kept, find_at, nodes_of, entries_of}
 use Rattle.slotted_classes.specs.Finding.{HasFinds}
 use Rattle.slotted_classes.proofs.KeptLists.{entry_at-of}
-use Rattle.slotted_classes.proofs.ChildIds.{zip-keys_values}
-use Rattle.slotted_classes.proofs.NameMaps.{length-keys}
 use Rattle.slotted_classes.specs.StateOf.{state_of}
 use Rattle.slotted_match_machine.specs.Machine.{Occurrence, no_occurrence}
 use Rattle.slotted_match_machine.specs.Readings.{IsWholeId, read_id}
@@ -42,9 +40,6 @@ name-put m n i y xs f l h put name before =
     ap (λ ws. take (i + 1) ws) (ap values put ∙ values-with_value_at m i y)
     ∙ (take_more_set (values m) i y l
     ∙ ((λ j. before j ++ name j ∷ []) ∙ (sym (map-append f (take i xs) (get_or xs i 0 ∷ [])) ∙ ap (map f) (sym (take_more xs i 0 h)))))
-
-pub contains-at : {X : Type 0} (xs : List X) (i : ℕ) (d : X) → i < length xs → Contains xs (get_or xs i d)
-contains-at xs i d l = (i, l, get_or_default xs i (get_or xs i d) d l)
 
 -- the id of one more number
 pub ids-step : (k : Kept) (names : List (ℕ × ℕ)) (order : List ℕ) (vs : List Occurrence) (i : ℕ) (old ids : List Applied) (a : Applied) → i < length order →

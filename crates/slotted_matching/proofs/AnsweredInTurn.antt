@@ -4,7 +4,7 @@ use Rattle.std.specs.Prelude.{Contains}
 use Rattle.std.specs.List.{zip, flat_map}
 use Rattle.std.proofs.lemmas.List.{length-map, take_more, take_all, length-drop, take-append-le, drop-append-le}
 use Rattle.std.proofs.Math.Nat.{suc-mul}
-use Rattle.slotted_theory.proofs.Lists.{Contains-of_map}
+use Rattle.slotted_lists.proofs.Contained.{Contains-of_map, Contains-get_or}
 use Rattle.slotted_slots.specs.Table.{Table}
 use Rattle.slotted_model.specs.Applied.{Applied}
 use Rattle.slotted_model_rules.specs.Conditions.{Values}
@@ -15,7 +15,6 @@ use Rattle.slotted_classes.specs.StateOf.{state_of}
 use Rattle.slotted_matching.specs.Matches.{answers_over}
 use Rattle.slotted_matching.specs.Answered.{NumbersByName, StandOnce, IsNamedAnswer, InTurn, HasWholeIds, HasDifferentPairs, AddsIds, AreWholeAnswers, ids_at, number_count}
 use Rattle.slotted_matching.specs.Naming.{slot_in}
-use Rattle.slotted_matching.proofs.AnsweredIds.{contains-at}
 use Rattle.slotted_matching.proofs.AnsweredNames.{answer-named, answer-zip, answer_by}
 
 -- one more answer
@@ -75,7 +74,7 @@ whole-has k vs es numbers xs whole x c =
       λ i h.
           let e = Contains-of_map (λ (q : List ℕ × ℕ). q.1) es i h in
           let l : i < length x.values = omega (arith, (numbers.each e.0 e.1).0, e.2, w.count) in
-          let o = w.values (get_or x.values i no_occurrence) (contains-at x.values i no_occurrence l) in
+          let o = w.values (get_or x.values i no_occurrence) (Contains-get_or x.values i no_occurrence l) in
           (l, record { in_range = o.in_range; lives = o.lives; count = o.count; differ = o.differ }),
       record { numbers = w.numbers_differ; slots = w.slots_differ },
     )

@@ -4,16 +4,17 @@ use Rattle.std.specs.Prelude.{Contains, Option, Some, None, cond, IsSome, IsTrue
 use Rattle.std.specs.List.{zip, flat_map}
 use Rattle.std.proofs.lemmas.Bool.{false≢true}
 use Rattle.std.proofs.lemmas.List.{length-map, get_or_default}
+use Rattle.slotted_lists.proofs.Contained.{contains_cases, contains_head, contains_tail, Contains-nil, Contains-map, Contains-of_map, Contains-get_or}
+use Rattle.slotted_lists.proofs.Members.{In-Contains, Contains-In, In-append, In-right}
+use Rattle.slotted_lists.proofs.Maps.{values-beside}
 use Rattle.slotted_theory.specs.Decided.{numbers_eq}
 use Rattle.slotted_theory.specs.FiniteMaps.{value_of}
 use Rattle.slotted_theory.proofs.Decides.{numbers_eq-true, numbers_eq-same}
-use Rattle.slotted_theory.proofs.Lists.{contains_cases, contains_head, contains_tail, Contains-nil, Contains-map, Contains-of_map}
 use Rattle.slotted_slots.specs.Table.{Table, is_known}
 use Rattle.slotted_model.specs.Applied.{Applied, values}
 use Rattle.slotted_model.specs.Correspondence.{AllDifferent, IsInjectiveOn}
 use Rattle.slotted_model.specs.Find.{used_slots}
 use Rattle.slotted_model.specs.Rest.{IsValidIn}
-use Rattle.slotted_model.proofs.Data.Members.{In-Contains, Contains-In, In-append, In-right}
 use Rattle.slotted_model.proofs.Correspondences.Pairs.{Contains-value_of, value_of-only}
 use Rattle.slotted_model_rules.specs.Conditions.{Values}
 use Rattle.slotted_model_rules.specs.Matcher.{value_at}
@@ -21,11 +22,10 @@ use Rattle.slotted_model_rules.specs.Rules.{id_or_none}
 use Rattle.slotted_match_machine.specs.Machine.{Answer, Occurrence, no_occurrence}
 use Rattle.slotted_match_machine.specs.Readings.{IsWholeId, names_of, read_id}
 use Rattle.slotted_match_machine.proofs.Lists.{In-flat_map}
-use Rattle.slotted_match_machine.proofs.WholeIds.{values-zip, whole-valid}
+use Rattle.slotted_match_machine.proofs.WholeIds.{whole-valid}
 use Rattle.slotted_classes.specs.Kept.{Kept, entries_of}
 use Rattle.slotted_classes.specs.StateOf.{state_of}
 use Rattle.slotted_hashcons.specs.WellFiled.{state_in}
-use Rattle.slotted_matching.proofs.AnsweredIds.{contains-at}
 use Rattle.slotted_matching.specs.Matches.{AscendingNames}
 use Rattle.slotted_matching.specs.Naming.{IsNaming, slot_in}
 use Rattle.slotted_matching.specs.Answered.{NumbersByName, StandOnce, HasName, IsNamedAnswer, HasWholeIds, HasDifferentPairs}
@@ -117,7 +117,7 @@ module _ (k : Kept) (vs : List (List ℕ)) (es : List (List ℕ × ℕ)) (number
   number-at e c n d =
       Contains-In (flat_map (λ (o : Occurrence). o.names) x.values) n
       (In-flat_map (λ (o : Occurrence). o.names) x.values (get_or x.values e.1 no_occurrence) n
-      (In-Contains x.values (get_or x.values e.1 no_occurrence) (contains-at x.values e.1 no_occurrence (whole-at e c).0))
+      (In-Contains x.values (get_or x.values e.1 no_occurrence) (Contains-get_or x.values e.1 no_occurrence (whole-at e c).0))
       (In-Contains (get_or x.values e.1 no_occurrence).names n d))
 
   -- a name of a value is that of a number
@@ -128,7 +128,7 @@ module _ (k : Kept) (vs : List (List ℕ)) (es : List (List ℕ × ℕ)) (number
       let w = (whole-at e.0 e.1).1 in
       let l : length (used_slots (entries_of k) o.class) ≡ length (map (slot_in names) o.names) = sym w.count ∙ sym (length-map o.names (slot_in names)) in
       let c : Contains (map (slot_in names) o.names) y =
-      subst (λ l. Contains l y) (ap (λ (q : List ℕ × Applied). values q.1.1) (sym e.2) ∙ values-zip (used_slots (entries_of k) o.class) (map (slot_in names) o.names) l) h.2 in
+      subst (λ l. Contains l y) (ap (λ (q : List ℕ × Applied). values q.1.1) (sym e.2) ∙ values-beside (used_slots (entries_of k) o.class) (map (slot_in names) o.names) l) h.2 in
       let n = Contains-of_map (slot_in names) o.names y c in
       (n.0, some-slot names n.0 (covers n.0 (number-at e.0 e.1 n.0 n.1)) ∙ ap (λ z. Some z) n.2)
 
@@ -141,7 +141,7 @@ module _ (k : Kept) (vs : List (List ℕ)) (es : List (List ℕ × ℕ)) (number
       (λ c.
           let e = Contains-of_map (λ (q : List ℕ × ℕ). q.0) es v (subst (λ l. Contains l v) (answer-variables es f) c) in
           let n = numbers.each e.0 e.1 in
-          subst (Contains vs) (n.1 ∙ e.2) (contains-at vs e.0.1 [] n.0)),
+          subst (Contains vs) (n.1 ∙ e.2) (Contains-get_or vs e.0.1 [] n.0)),
     );
     reads = λ r. record {
       name = slot_in names;

@@ -4,12 +4,12 @@ use Rattle.std.specs.Prelude.{slice_set}
 use Rattle.std.proofs.lemmas.Bool.{eq-eqb, ne_eqb}
 use Rattle.std.proofs.lemmas.List.{append-nil, drop_more, get_or-append-add, length-map, map-append, map_push, take_all, take_more}
 use Rattle.std.proofs.Math.Seq.{set-append_seam}
+use Rattle.slotted_lists.proofs.Members.{In, In-take, In-drop}
 use Rattle.slotted_nodes.specs.Form.{Form, Tree, leaf, own, child, bind, scopes, with_name}
 use Rattle.slotted_languages.specs.Outline.{child_mark, marks, outlined, outlined_form, outlined_names, skeleton_form}
 use Rattle.slotted_languages.proofs.NodeTerms.{own_fits, child_rest_fits, bind_inner_fits, bind_rest_fits}
-use Rattle.slotted_model.proofs.Data.Members.{In}
 use Rattle.slotted_matching.specs.KeyRows.{blanked, blanked_form}
-use Rattle.slotted_matching.proofs.KeyNames.{In-drop, In-first, In-take}
+use Rattle.slotted_matching.proofs.KeyNames.{In-first}
 
 -- the form with such names at its first i places
 abbrev pub blanked_to : ℕ → Form → ℕ → Form

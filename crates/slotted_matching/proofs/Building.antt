@@ -4,11 +4,11 @@ use Rattle.std.specs.Prelude.{Contains, not, nat_eq}
 use Rattle.std.proofs.lemmas.Bool.{ne_eqb, eq-eqb}
 use Rattle.std.proofs.lemmas.List.{take_more, length-map, get_or-map}
 use Rattle.std.proofs.lemmas.List.Elements.{Contains-push_cases, filter-append}
+use Rattle.slotted_lists.proofs.Members.{In, In-take, In-drop}
 use Rattle.slotted_nodes.specs.Form.{Form, Tree, leaf, own, child, bind, scopes, children}
 use Rattle.slotted_languages.specs.Outline.{outlined_names}
 use Rattle.slotted_languages.proofs.NodeTerms.{own_fits, child_rest_fits, bind_inner_fits, bind_rest_fits}
 use Rattle.slotted_model.specs.Applied.{Applied, keys, values, renamed_id}
-use Rattle.slotted_model.proofs.Data.Members.{In}
 use Rattle.slotted_model_rules.specs.Goals.{own_names}
 use Rattle.slotted_classes.specs.ChildIds.{child_ids}
 use Rattle.slotted_classes.proofs.ChildIds.{child_is, child_with_keys, length-ids}
@@ -16,7 +16,7 @@ use Rattle.slotted_nodes.specs.Form.{child_names}
 use Rattle.slotted_rule_patterns.specs.NodeArguments.{args_of}
 use Rattle.slotted_match_machine.specs.Index.{OneByOne}
 use Rattle.slotted_matching.specs.KeyRows.{slot_number, unmarked, own_numbers, numbered_ids}
-use Rattle.slotted_matching.proofs.KeyNames.{In-drop, In-first, In-take}
+use Rattle.slotted_matching.proofs.KeyNames.{In-first}
 
 -- the names so far have numbers below a count
 pub covers-more : (xs : List ℕ) (i m n : ℕ) → i < length xs → ((x : ℕ) → Contains (take i xs) x → slot_number x < m) → m ≤ n → slot_number (get_or xs i 0) < n →

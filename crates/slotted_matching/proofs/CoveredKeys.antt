@@ -1,14 +1,14 @@
 -- The numbers of a shape are below the number of its places.
-use Rattle.std.proofs.Common.{◌≡◌, ℕ, zero, suc, ◌+◌, ◌<◌, ◌≤◌, List, [], ◌∷◌, ◌++◌, length, Option, Some, None, cond, sym, ◌∙◌, ap, refl, subst, inl, inr, arith, length-append}
-use Rattle.std.proofs.lemmas.Bool.{cases_eq, eq-eqb, ne_eqb}
+use Rattle.std.proofs.Common.{◌≡◌, ℕ, zero, suc, ◌+◌, ◌<◌, ◌≤◌, List, [], ◌∷◌, ◌++◌, length, Option, Some, None, sym, ap, refl, subst, inl, inr, arith, length-append}
 use Rattle.std.proofs.lemmas.List.{map-append}
+use Rattle.slotted_lists.proofs.Members.{In, In-append, In-Contains}
 use Rattle.slotted_theory.specs.Nameless.{DArgs, stop, place, sub, scope}
 use Rattle.slotted_slots.specs.Maps.{keys}
 use Rattle.slotted_slots.specs.Table.{numeric_slot}
 use Rattle.slotted_nodes.specs.Form.{Form}
 use Rattle.slotted_languages.specs.NodeTerm.{nameless_node}
 use Rattle.slotted_languages.specs.Shape.{Numbers, number_of, free_number, number_at, past_binder, numbered, no_numbers, names_in, shape}
-use Rattle.slotted_model.proofs.Data.Members.{In, In-append, In-Contains}
+use Rattle.slotted_languages.proofs.FirstPlaces.{free_in}
 use Rattle.slotted_matching.specs.KeyRows.{AreCovered}
 
 -- below the slot of the number n
@@ -32,15 +32,8 @@ record OneUnder (k : Numbers) (h : ℕ × Numbers) : Type 0 where
   more : k.next ≤ h.1.next
   few : h.1.next ≤ k.next + 1
 
-number-key : (m : List (ℕ × ℕ)) (x n : ℕ) → number_of m x ≡ Some n → In n (keys m)
-number-key [] x n e = absurd (cc)
-number-key (p ∷ m) x n e = elim (cases_eq p.1 x) [
-  | inl d ↦ let q : Some p.0 ≡ Some n = sym (ap (λ b. cond b (Some p.0) (number_of m x)) (eq-eqb p.1 x d)) ∙ e in let r : p.0 ≡ n = cc in inl (sym r)
-  | inr d ↦ inr (number-key m x n (sym (ap (λ b. cond b (Some p.0) (number_of m x)) (ne_eqb p.1 x d)) ∙ e))
-]
-
 free-under : (o : Option ℕ) (k : Numbers) (x : ℕ) → number_of k.free x ≡ o → AreUnder k.next (keys k.free) → OneUnder k (free_number o k x)
-free-under (Some n) k x e h = record { number = h n (number-key k.free x n e); free = h; more = omega arith; few = omega arith }
+free-under (Some n) k x e h = record { number = h n (free_in k.free x n e); free = h; more = omega arith; few = omega arith }
 free-under None k x e h = record {
   number = omega arith;
   free = subst (AreUnder (k.next + 1)) (sym (map-append (λ (p : ℕ × ℕ). p.0) k.free ((numeric_slot k.next, x) ∷ [])))

@@ -3,13 +3,13 @@ use Rattle.std.proofs.Common.{◌≡◌, ℕ, suc, ◌<◌, ◌≤◌, List, [],
 use Rattle.std.specs.Prelude.{◌↔◌, ◌==◌, if◌then◌else◌, Contains, nat_eq, slice_get}
 use Rattle.std.proofs.lemmas.Bool.{eq-eqb, eqb-true}
 use Rattle.std.proofs.lemmas.Option.{slice_get_within}
+use Rattle.slotted_lists.proofs.Members.{In, In-Contains}
 use Rattle.slotted_nodes.specs.Form.{Form, children}
 use Rattle.slotted_languages.specs.Outline.{skeleton_form}
 use Rattle.slotted_model.specs.Extraction.{row_class}
 use Rattle.slotted_model.specs.Find.{find_class}
 use Rattle.slotted_model.specs.State.{Row, State}
 use Rattle.slotted_model.proofs.Finds.Finding.{found-in_range, found-live, leads}
-use Rattle.slotted_model.proofs.Data.Members.{In, In-Contains}
 use Rattle.slotted_model_rules.specs.Patterns.{Pattern, PatternArgs, pattern_node}
 use Rattle.slotted_classes.specs.Kept.{Kept, entries_of, nodes_of}
 use Rattle.slotted_classes.proofs.KeptLists.{length-nodes_of}

@@ -7,13 +7,13 @@ use Rattle.std.proofs.lemmas.Bool.{cases_eq, cases_lt, cases_Bool, eq-eqb, eqb-t
 use Rattle.std.proofs.lemmas.List.{append-nil, length-map}
 use Rattle.std.proofs.lemmas.List.Elements.{filter-append}
 use Rattle.std.proofs.lemmas.List.Sorted.{Contains-permutation, IsPermutation-sym}
+use Rattle.slotted_lists.proofs.Members.{In, In-append, In-left, In-right, In-map, In-of_map, In-Contains, Contains-In}
 use Rattle.slotted_nodes.specs.Form.{Form}
 use Rattle.slotted_model.specs.Ascending.{IsAscending}
 use Rattle.slotted_model.specs.Extraction.{row_class}
 use Rattle.slotted_model.specs.Find.{Entry, IsLive, entry_at, find_class}
 use Rattle.slotted_model.specs.State.{Row, State}
 use Rattle.slotted_model.proofs.Finds.Finding.{found-in_range, leads}
-use Rattle.slotted_model.proofs.Data.Members.{In, In-append, In-left, In-right, In-map, In-of_map, In-Contains, Contains-In}
 use Rattle.slotted_model.proofs.Finds.NormalIds.{used-live}
 use Rattle.slotted_model.proofs.Data.Sets.{below_from_each}
 use Rattle.slotted_classes.specs.Kept.{Kept, entries_of, nodes_of}

@@ -3,9 +3,10 @@ use Rattle.std.proofs.Common.{◌≡◌, ◌≢◌, ℕ, zero, suc, ◌<◌, ◌
 use Rattle.std.specs.Prelude.{Contains, unwrap_or}
 use Rattle.std.proofs.lemmas.Bool.{cases_eq, eq-eqb, ne_eqb}
 use Rattle.std.proofs.lemmas.List.FromFn.{get_or-map-range_with_len, length-map-range_with_len}
+use Rattle.slotted_lists.proofs.Contained.{contains_head, contains_tail, contains_cases, Contains-nil}
+use Rattle.slotted_lists.proofs.Members.{In, In-Contains, Contains-In}
 use Rattle.slotted_theory.specs.FiniteMaps.{filled, top}
 use Rattle.slotted_theory.specs.Shape.{free_names}
-use Rattle.slotted_theory.proofs.Lists.{contains_head, contains_tail, contains_cases, Contains-nil}
 use Rattle.slotted_slots.specs.Maps.{value_of}
 use Rattle.slotted_slots.specs.Table.{numeric_slot}
 use Rattle.slotted_nodes.specs.Form.{Form}
@@ -15,7 +16,6 @@ use Rattle.slotted_model.specs.Find.{find_class, find_map, used_slots, Linked}
 use Rattle.slotted_model.specs.State.{Row, State}
 use Rattle.slotted_model.proofs.Correspondences.Pairs.{Contains-key, Contains-value_of, value_of-found}
 use Rattle.slotted_model.proofs.Finds.Finding.{find_map-full, found-in_range, found-live, leads}
-use Rattle.slotted_model.proofs.Data.Members.{In, In-Contains, Contains-In}
 use Rattle.slotted_model.proofs.Finds.NormalIds.{used-live}
 use Rattle.slotted_model_rules.specs.Matcher.{NodeArgs, no_more, a_name, an_id, a_binder, bound_names, written_names}
 use Rattle.slotted_model_rules.specs.ReplacedIds as rules

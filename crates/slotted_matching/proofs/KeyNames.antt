@@ -2,37 +2,22 @@
 use Rattle.std.proofs.Common.{◌≡◌, ℕ, zero, suc, ◌<◌, List, [], ◌∷◌, ◌++◌, length, take, drop, map, sym, ◌∙◌, ap, refl, subst, inl, inr, arith, slice_index}
 use Rattle.std.specs.Prelude.{Contains, Option, Some, None, IsSome, slice_index_or}
 use Rattle.std.specs.List.{zip}
-use Rattle.slotted_nodes.specs.Form.{Form, Tree, leaf, own, child, bind, scopes, end_at}
+use Rattle.slotted_lists.proofs.Members.{In, In-append, In-Contains, In-take, In-drop}
+use Rattle.slotted_lists.proofs.Maps.{In-zip}
+use Rattle.slotted_lists.proofs.Lists.{first-take, drop_one-take}
+use Rattle.slotted_nodes.specs.Form.{Form, Tree, leaf, own, child, bind, scopes}
 use Rattle.slotted_languages.specs.Children.{IsBinder}
 use Rattle.slotted_languages.specs.Shape.{Fits}
 use Rattle.slotted_languages.proofs.NodeTerms.{own_fits, child_rest_fits, bind_inner_fits, bind_rest_fits}
 use Rattle.slotted_model.specs.Applied.{values}
 use Rattle.slotted_model.specs.Correspondence.{AllDifferent}
-use Rattle.slotted_model.proofs.Data.Members.{In, In-append, In-Contains}
 use Rattle.slotted_model_rules.specs.Matcher.{written_names, bound_names}
 use Rattle.slotted_rule_patterns.specs.NodeArguments.{args_of, node_arguments}
-
--- a part of a list
-pub In-take : (n : ℕ) (xs : List ℕ) (z : ℕ) → In z (take n xs) → In z xs
-In-take zero xs z h = absurd h
-In-take (suc n) [] z h = absurd h
-In-take (suc n) (x ∷ xs) z (inl e) = inl e
-In-take (suc n) (x ∷ xs) z (inr h) = inr (In-take n xs z h)
-
-pub In-drop : (n : ℕ) (xs : List ℕ) (z : ℕ) → In z (drop n xs) → In z xs
-In-drop zero xs z h = h
-In-drop (suc n) [] z h = absurd h
-In-drop (suc n) (x ∷ xs) z h = inr (In-drop n xs z h)
+use Rattle.slotted_rule_patterns.proofs.NodeArguments.{some_end}
 
 pub In-first : (xs : List ℕ) (z n : ℕ) → length xs ≡ suc n → z ≡ slice_index xs 0 → In z xs
 In-first [] z n l e = absurd (omega (arith, l))
 In-first (x ∷ xs) z n l e = inl e
-
-In-zip : (ks xs : List ℕ) (z : ℕ) → In z (values (zip ks xs)) → In z xs
-In-zip [] xs z h = absurd h
-In-zip (k ∷ ks) [] z h = absurd h
-In-zip (k ∷ ks) (x ∷ xs) z (inl e) = inl e
-In-zip (k ∷ ks) (x ∷ xs) z (inr h) = inr (In-zip ks xs z h)
 
 written : (u : Tree) (xs : List ℕ) (z : ℕ) → length xs ≡ length (scopes u) → In z (written_names (args_of u xs)) → In z xs
 written leaf xs z n h = absurd h
@@ -62,15 +47,6 @@ at_binders [] xs = []
 at_binders (None ∷ ss) xs = at_binders ss (drop 1 xs)
 at_binders (Some n ∷ ss) xs = slice_index xs 0 ∷ at_binders ss (drop 1 xs)
 
-drop-take : (n : ℕ) (xs : List ℕ) → drop 1 (take (suc n) xs) ≡ take n (drop 1 xs)
-drop-take zero [] = refl
-drop-take (suc n) [] = refl
-drop-take n (x ∷ xs) = refl
-
-first-take : (n : ℕ) (xs : List ℕ) → slice_index (take (suc n) xs) 0 ≡ slice_index xs 0
-first-take n [] = refl
-first-take n (x ∷ xs) = refl
-
 drop-drop : (n : ℕ) (xs : List ℕ) → drop (suc n) xs ≡ drop n (drop 1 xs)
 drop-drop zero [] = refl
 drop-drop (suc n) [] = refl
@@ -84,11 +60,11 @@ binders-append : (ss ts : List (Option ℕ)) (xs : List ℕ) → at_binders (ss 
 binders-append [] ts xs = refl
 binders-append (None ∷ ss) ts xs =
     let n = length ss in
-    binders-append ss ts (drop 1 xs) ∙ (λ i. at_binders ss (sym (drop-take n xs) i) ++ at_binders ts (sym (drop-drop n xs) i))
+    binders-append ss ts (drop 1 xs) ∙ (λ i. at_binders ss (sym (drop_one-take n xs) i) ++ at_binders ts (sym (drop-drop n xs) i))
 binders-append (Some k ∷ ss) ts xs =
     let n = length ss in
     ap (λ l. slice_index xs 0 ∷ l) (binders-append ss ts (drop 1 xs))
-    ∙ (λ i. sym (first-take n xs) i ∷ (at_binders ss (sym (drop-take n xs) i) ++ at_binders ts (sym (drop-drop n xs) i)))
+    ∙ (λ i. sym (first-take n xs) i ∷ (at_binders ss (sym (drop_one-take n xs) i) ++ at_binders ts (sym (drop-drop n xs) i)))
 
 binders-child : (ks : List ℕ) (ss : List (Option ℕ)) (xs : List ℕ) → at_binders ss (drop (length ks) xs) ≡ at_binders (map (λ _. None) ks ++ ss) xs
 binders-child [] ss xs = refl
@@ -139,10 +115,6 @@ different (Some n ∷ ss) xs a = (new, different ss (drop 1 xs) (apart-next (Som
         let b = binds ss (drop 1 xs) (slice_index xs 0) (In-Contains (at_binders ss (drop 1 xs)) (slice_index xs 0) c) in
         let same : 0 ≡ suc b.place = a 0 (suc b.place) (omega arith) (omega (arith, b.within)) refl b.binder (b.named ∙ at-next xs b.place) in
         omega (arith, same)
-
-some_end : (i : ℕ) (o : Option ℕ) → IsSome o → IsSome (end_at i o)
-some_end i None h = h
-some_end i (Some n) h = refl
 
 module _ (f : Form) (fits : Fits f) where
   -- each bound name stands at a binder

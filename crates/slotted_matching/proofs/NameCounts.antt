@@ -5,18 +5,18 @@ use Rattle.std.specs.List.{flat_map}
 use Rattle.std.proofs.lemmas.Bool.{false≢true}
 use Rattle.std.proofs.lemmas.List.{length-map}
 use Rattle.std.proofs.lemmas.List.Elements.{Contains-get_or}
+use Rattle.slotted_lists.proofs.Members.{In, In-Contains}
+use Rattle.slotted_lists.proofs.Maps.{values-beside}
 use Rattle.slotted_theory.specs.Decided.{numbers_eq}
 use Rattle.slotted_theory.proofs.Decides.{numbers_eq-true, numbers_eq-same}
 use Rattle.slotted_model.specs.Applied.{Applied, values}
 use Rattle.slotted_model.specs.Find.{used_slots}
 use Rattle.slotted_model.specs.State.{State}
-use Rattle.slotted_model.proofs.Data.Members.{In, In-Contains}
 use Rattle.slotted_model_rules.specs.Conditions.{Values}
 use Rattle.slotted_model_rules.specs.Matcher.{value_at}
 use Rattle.slotted_model_rules.specs.Rules.{id_or_none, valued}
 use Rattle.slotted_match_machine.specs.Machine.{Answer, Occurrence, no_occurrence}
 use Rattle.slotted_match_machine.specs.Readings.{IsWholeAnswer, ReadsAnswer}
-use Rattle.slotted_match_machine.proofs.WholeIds.{values-zip}
 use Rattle.slotted_matching.specs.Answered.{StandOnce}
 use Rattle.slotted_matching.specs.Found.{names_in}
 
@@ -88,5 +88,5 @@ names-read g vs s x once whole reads there =
     let o = slice_index_or x.values k no_occurrence in
     let w = whole.values o (Contains-get_or x.values k no_occurrence (omega (arith, l, whole.count))) in
     ap (λ (a : Applied). length (values a.1)) (reads.values k l)
-    ∙ (ap length (values-zip (used_slots g.found o.class) (map reads.name o.names) (sym w.count ∙ sym (length-map o.names reads.name))) ∙ length-map o.names reads.name))
+    ∙ (ap length (values-beside (used_slots g.found o.class) (map reads.name o.names) (sym w.count ∙ sym (length-map o.names reads.name))) ∙ length-map o.names reads.name))
     (λ k l. In-Contains (map (λ e. e.0) s) (slice_index_or vs k []) (there (slice_index_or vs k []) (Contains-get_or vs k [] l)))

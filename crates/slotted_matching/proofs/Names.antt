@@ -5,8 +5,9 @@ use Rattle.slotted_theory.specs.FiniteMaps.{value_of}
 use Rattle.std.proofs.lemmas.List.{take_more, take_all, append-nil}
 use Rattle.std.proofs.lemmas.List.Folds.{length-flat_map-take}
 use Rattle.std.proofs.lemmas.List.Concat.{flat_map-append}
-use Rattle.std.proofs.lemmas.Bool.{false≢true, eqb-true, eq-eqb}
-use Rattle.slotted_theory.proofs.Lists.{contains_cases, Contains-nil, contains_head, contains_tail}
+use Rattle.std.proofs.lemmas.Bool.{false≢true, eqb-true}
+use Rattle.slotted_lists.proofs.Contained.{contains_cases, Contains-nil, contains_head, contains_tail}
+use Rattle.slotted_lists.proofs.Maps.{value_of-added}
 use Rattle.slotted_slots.specs.Table.{Table, KnowsMore, is_known}
 use Rattle.slotted_match_machine.specs.declared.answer.Occurrence.{Occurrence}
 use Rattle.slotted_matching.specs.Naming.{NamesMore, Covers, numbers_of}
@@ -37,14 +38,6 @@ value-left (p ∷ xs) ys m z e = go (nat_eq m p.0) (value-left xs ys m z) e
   where
     go : (b : Bool) → (value_of xs m ≡ Some z → value_of (xs ++ ys) m ≡ Some z) → cond b (Some p.1) (value_of xs m) ≡ Some z → cond b (Some p.1) (value_of (xs ++ ys) m) ≡ Some z
     go true rest h = h
-    go false rest h = rest h
-
-value-last : (xs : List (ℕ × ℕ)) (n y : ℕ) → value_of xs n ≡ None → value_of (xs ++ (n, y) ∷ []) n ≡ Some y
-value-last [] n y e = ap (λ b. cond b (Some y) None) (eq-eqb n n refl)
-value-last (p ∷ xs) n y e = go (nat_eq n p.0) (value-last xs n y) e
-  where
-    go : (b : Bool) → (value_of xs n ≡ None → value_of (xs ++ (n, y) ∷ []) n ≡ Some y) → cond b (Some p.1) (value_of xs n) ≡ None → cond b (Some p.1) (value_of (xs ++ (n, y) ∷ []) n) ≡ Some y
-    go true rest h = absurd (false≢true (sym (ap is_some h)))
     go false rest h = rest h
 
 -- a name is one of those before or the last one
@@ -94,7 +87,7 @@ name-added t u xs n y new fresh knows more = record {
 }
 
 pub named-last : (xs : List (ℕ × ℕ)) (n y : ℕ) → value_of xs n ≡ None → IsSome (value_of (xs ++ (n, y) ∷ []) n)
-named-last xs n y e = ap is_some (value-last xs n y e)
+named-last xs n y e = ap is_some (value_of-added xs n y e)
 
 -- all numbers have names after the next one
 pub covers-next : (names : List (ℕ × ℕ)) (xs ys : List ℕ) → Covers names xs → Covers names ys → Covers names (xs ++ ys)

@@ -3,10 +3,11 @@ use Rattle.std.proofs.Common.{◌≡◌, ◌∙◌, ℕ, zero, suc, ◌+◌, ◌
 use Rattle.std.specs.Prelude.{Contains, Option, Some, None, cond, slice_index_or, unwrap_or}
 use Rattle.std.specs.List.{zip, flat_map}
 use Rattle.std.proofs.lemmas.List.{length-map}
+use Rattle.slotted_lists.proofs.Contained.{above, Contains-below, Contains-map, contains_head, contains_tail}
+use Rattle.slotted_lists.proofs.Maps.{values-beside}
 use Rattle.slotted_theory.specs.Decided.{numbers_eq}
 use Rattle.slotted_theory.specs.FiniteMaps.{value_of}
 use Rattle.slotted_theory.proofs.Decides.{numbers_eq-true, numbers_eq-same}
-use Rattle.slotted_theory.proofs.Lists.{above, Contains-below, Contains-map, contains_head, contains_tail}
 use Rattle.slotted_model.specs.Applied.{Applied, values}
 use Rattle.slotted_model.specs.Correspondence.{AllDifferent}
 use Rattle.slotted_model.specs.Find.{used_slots}
@@ -18,7 +19,6 @@ use Rattle.slotted_model_rules.specs.Rules.{id_or_none}
 use Rattle.slotted_match_machine.specs.Index.{OneByOne}
 use Rattle.slotted_match_machine.specs.Machine.{Answer, Occurrence, no_occurrence}
 use Rattle.slotted_match_machine.specs.Readings.{IsWholeAnswer, IsWholeId, ReadsAnswer, read_id}
-use Rattle.slotted_match_machine.proofs.WholeIds.{values-zip}
 use Rattle.slotted_matching.specs.Answered.{StandOnce, number_count}
 use Rattle.slotted_matching.specs.Found.{name_count, names_in}
 use Rattle.slotted_matching.proofs.AnsweredNames.{one-pair}
@@ -70,7 +70,7 @@ module _ (g : State) (vs : List (List ℕ)) (once : StandOnce vs) where
   names-zip (v ∷ ws) (o ∷ os) f n whole =
       let w : IsWholeId g o = whole o (contains_head o os) in
       let here : length (values (read_id g f o).1) ≡ length o.names =
-      ap length (values-zip (used_slots g.found o.class) (map f o.names) (sym w.count ∙ sym (length-map o.names f))) ∙ length-map o.names f in
+      ap length (values-beside (used_slots g.found o.class) (map f o.names) (sym w.count ∙ sym (length-map o.names f))) ∙ length-map o.names f in
       let rest : length (names_in (zip ws (map (read_id g f) os))) ≡ length (flat_map (λ (q : Occurrence). q.names) os) = names-zip ws os f (omega (arith, n)) (λ q c. whole q (contains_tail o os q c)) in
       omega (arith, here, rest, length-append (values (read_id g f o).1) (names_in (zip ws (map (read_id g f) os))), length-append o.names (flat_map (λ (q : Occurrence). q.names) os))
 

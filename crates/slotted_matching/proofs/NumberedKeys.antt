@@ -2,6 +2,8 @@
 use Rattle.std.proofs.Common.{◌≡◌, ◌≢◌, ℕ, List, [], ◌∷◌, map, sym, ◌∙◌, ap, refl, subst, inl, inr, arith, slice_index}
 use Rattle.std.specs.Prelude.{Contains}
 use Rattle.std.specs.List.{zip}
+use Rattle.slotted_lists.proofs.Members.{In, In-of_map, In-Contains}
+use Rattle.slotted_lists.proofs.Maps.{zip-with_values}
 use Rattle.slotted_theory.specs.Nameless.{DTerm, moved, moved_args}
 use Rattle.slotted_theory.specs.FiniteMaps.{filled, with_values}
 use Rattle.slotted_theory.specs.Shape.{free_names, number_in}
@@ -18,7 +20,6 @@ use Rattle.slotted_model.specs.Ascending.{IsAscending, names}
 use Rattle.slotted_model.specs.Correspondence.{AllDifferent, IsInjectiveOn}
 use Rattle.slotted_model.specs.State.{Row, name_numbered}
 use Rattle.slotted_model.proofs.Data.Maps.{filled-map_on, map_on-filled, pair-filled, values-map_on}
-use Rattle.slotted_model.proofs.Data.Members.{In, In-of_map, In-Contains}
 use Rattle.slotted_model.proofs.Rebuilding.Rows.{name_numbered-at}
 use Rattle.slotted_model.proofs.Data.Sets.{In-ascending}
 use Rattle.slotted_model.proofs.Data.Theory.{free_names-moved, moved-agrees, moved-moved}
@@ -46,12 +47,6 @@ slot-of x p = ap (λ y. numeric_slot (slot_number y)) p.1 ∙ (ap numeric_slot (
 
 numbers-apart : (x y : ℕ) → IsNumeric x → IsNumeric y → slot_number x ≡ slot_number y → x ≡ y
 numbers-apart x y p q e = sym (slot-of x p) ∙ (ap numeric_slot e ∙ slot-of y q)
-
--- values put beside other keys
-zip-map : (f : ℕ → ℕ) (xs ys : List ℕ) → zip xs (map f ys) ≡ with_values f (zip xs ys)
-zip-map f [] ys = refl
-zip-map f (x ∷ xs) [] = refl
-zip-map f (x ∷ xs) (y ∷ ys) = ap (λ l. (x, f y) ∷ l) (zip-map f xs ys)
 
 with-on : (f g : ℕ → ℕ) (ks : List ℕ) → with_values f (map_on g ks) ≡ map_on (λ k. f (g k)) ks
 with-on f g [] = refl
@@ -165,7 +160,7 @@ module _ (f : Form) (m : List (ℕ × ℕ)) (o : ℕ) (keyed : IsKeyed (f, m)) w
   slots-on =
       let vs : values m ≡ map (filled m) (keys m) = ap values (sym (map_on-filled m rises)) ∙ values-map_on (filled m) (keys m) in
       ap (zip (names s)) (vs ∙ ap (map (filled m)) numbers-are)
-      ∙ (zip-map (filled m) (names s) (firsts (free_names d.args))
+      ∙ (zip-with_values (filled m) (names s) (firsts (free_names d.args))
       ∙ (ap (with_values (filled m)) (names-beside d) ∙ with-on (filled m) (name_numbered d) (names s)))
 
   pub slot-at : (i : ℕ) → Contains (free_names s.args) i → filled r.slots i ≡ filled m (name_numbered d i)

@@ -11,7 +11,7 @@ use Rattle.std.specs.declared.cmp.Ordering.TheVariants.{Less, Equal, Greater}
 use Rattle.std.specs.Ordering.{match_ordering, is_eq}
 use Rattle.std.proofs.lemmas.Map.Text.{is_eq-slice_cmp}
 use Rattle.std.proofs.lemmas.Slice.Eq.{bytes_eq-Decides}
-use Rattle.slotted_model.proofs.Data.Members.{In, In-Contains, Contains-In}
+use Rattle.slotted_lists.proofs.Members.{In, In-Contains, Contains-In}
 use Rattle.slotted_matching.specs.Matches.{AscendingNames, name_order}
 use Rattle.slotted_matching.specs.Answered.{NumbersByName, StandOnce}
 

@@ -3,7 +3,7 @@ use Rattle.std.proofs.Common.{◌≡◌, ℕ, suc, List, [], ◌∷◌, ◌++◌
 use Rattle.std.specs.declared.alloc.Global.{Global}
 use Rattle.std.specs.List.{flat_map}
 use Rattle.std.proofs.lemmas.Grind.{flat_map-append}
-use Rattle.slotted_model.proofs.Data.Members.{In, In-left, In-right, In-append, In-Contains, Contains-In}
+use Rattle.slotted_lists.proofs.Members.{In, In-left, In-right, In-append, In-Contains, Contains-In}
 use Rattle.slotted_model_rules.specs.Goals.{own_slots}
 use Rattle.slotted_model_rules.specs.Patterns.{Pattern, PatternArgs, no_argument, own_name, child_pattern, binding}
 use Rattle.slotted_match_machine.specs.declared.program.Source.{Source}

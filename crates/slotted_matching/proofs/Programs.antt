@@ -2,11 +2,11 @@
 use Rattle.std.proofs.Common.{ℕ, List, [], ◌∷◌, ◌++◌, length, Option, Some, None, Bool, true, false, sym, refl, subst, inl, inr, Vec}
 use Rattle.std.specs.Prelude.{cond, nat_eq, nat_lt, option_map, option_and_then, slice_index_or}
 use Rattle.std.specs.declared.alloc.Global.{Global}
+use Rattle.slotted_lists.proofs.Members.{In, In-Contains, Contains-In}
 use Rattle.slotted_theory.specs.FiniteMaps.{value_of}
 use Rattle.slotted_nodes.specs.Form.{Form}
 use Rattle.slotted_model.specs.Applied.{values}
 use Rattle.slotted_model.specs.Correspondence.{has_slot}
-use Rattle.slotted_model.proofs.Data.Members.{In, In-Contains, Contains-In}
 use Rattle.slotted_model_rules.specs.Goals.{paired_all}
 use Rattle.slotted_model_rules.specs.Matcher.{paired, paired_with}
 use Rattle.slotted_model_rules.specs.Patterns.{Pattern, PatternArgs}

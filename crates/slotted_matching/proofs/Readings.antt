@@ -1,11 +1,11 @@
 -- Substitutions that read the machine's answers read the states of the matcher, one by one.
 use Rattle.std.proofs.Common.{ℕ, ◌<◌, List, [], ◌∷◌, length, refl, inl, inr}
 use Rattle.std.specs.List.{flat_map}
+use Rattle.slotted_lists.proofs.Members.{In, Contains-In}
 use Rattle.slotted_theory.specs.Renaming.{IsInjective}
 use Rattle.slotted_model.specs.Find.{IsLive, used_slots}
 use Rattle.slotted_model.specs.State.{Row, State}
 use Rattle.slotted_model.specs.Rest.{AtRest}
-use Rattle.slotted_model.proofs.Data.Members.{In, Contains-In}
 use Rattle.slotted_model_rules.specs.Conditions.{Values}
 use Rattle.slotted_model_rules.specs.Matcher.{MatchState, Gives, Reads}
 use Rattle.slotted_model_rules.specs.Patterns.{Pattern}

@@ -2,6 +2,7 @@
 use Rattle.std.proofs.Common.{◌≡◌, ℕ, suc, ◌+◌, List, [], ◌∷◌, length, take, drop, Bool, true, false, sym, ◌∙◌, ap, refl, arith, slice_index, length-append, length-drop, length-take}
 use Rattle.std.specs.Prelude.{◌&&◌, ◌↔◌}
 use Rattle.std.proofs.Math.Nat.{suc_inj}
+use Rattle.slotted_lists.proofs.Booleans.{and-true}
 use Rattle.slotted_theory.specs.Nameless.{nameless_args, extend}
 use Rattle.slotted_theory.specs.Shape.{free_names, number_in}
 use Rattle.slotted_nodes.specs.Form.{Form, Tree, leaf, own, child, bind, scopes, children}
@@ -23,10 +24,6 @@ same_outline (child i ks r) (child j ls s) = same_outline r s
 same_outline (bind u r) (bind v s) = same_outline u v && same_outline r s
 same_outline _ _ = false
 
-both-true : (a b : Bool) → (a && b) ≡ true → (a ≡ true) × (b ≡ true)
-both-true true b e = (refl, e)
-both-true false b e = absurd (cc)
-
 same-then : (u t : Tree) → same_outline u t ≡ true → outlined u ≡ outlined t
 same-then leaf leaf e = refl
 same-then leaf (own s) e = absurd (cc)
@@ -44,7 +41,7 @@ same-then (bind u r) leaf e = absurd (cc)
 same-then (bind u r) (own s) e = absurd (cc)
 same-then (bind u r) (child j ls s) e = absurd (cc)
 same-then (bind u r) (bind v s) e =
-    let h = both-true (same_outline u v) (same_outline r s) e in
+    let h = and-true (same_outline u v) (same_outline r s) e in
     λ i. bind (same-then u v h.0 i) (same-then r s h.1 i)
 
 then-same : (u t : Tree) → outlined u ≡ outlined t → same_outline u t ≡ true

@@ -1,18 +1,19 @@
 -- The sources of classes, and the rows of sources.
 use Rattle.std.proofs.Common.{◌≡◌, ◌≢◌, ℕ, zero, suc, ◌+◌, ◌<◌, List, [], ◌∷◌, ◌++◌, length, take, Option, Some, None, Bool, true, false, cond, sym, ◌∙◌, ap, refl, subst, inl, inr, arith, get_or, get_or-set_same, get_or-set_other, append_assoc, length-append}
-use Rattle.std.specs.Prelude.{All, is_some, nat_eq, option_map, set, slice_index_or, ◌&&◌, filter}
+use Rattle.std.specs.Prelude.{All, is_some, nat_eq, set, slice_index_or, ◌&&◌, filter}
 use Rattle.std.specs.List.{range_with_len}
 use Rattle.std.proofs.lemmas.Bool.{cases_eq, cases_lt, eq-eqb, eqb-true, ne_eqb, false≢true}
 use Rattle.std.proofs.lemmas.List.{take_more}
 use Rattle.std.proofs.lemmas.List.Elements.{Contains-get_or}
 use Rattle.std.proofs.Math.ListN.{length-set}
+use Rattle.slotted_lists.proofs.Members.{In, In-Contains}
+use Rattle.slotted_lists.proofs.Booleans.{and-true as both}
+use Rattle.slotted_lists.proofs.Lists.{slice_get-append_left}
 use Rattle.slotted_nodes.specs.Form.{Form}
 use Rattle.slotted_model.specs.Find.{Entry, entry_at, find_class}
-use Rattle.slotted_model.proofs.Data.Members.{In, In-Contains}
 use Rattle.slotted_classes.specs.Kept.{Kept, entries_of}
 use Rattle.slotted_hashcons.specs.Filed.{Filing, filed_of}
 use Rattle.slotted_hashcons.specs.FiledRows.{IsFiled, Rows}
-use Rattle.slotted_hashcons.proofs.Places.{at-append_left}
 use Rattle.slotted_lookup.specs.Reports.{class_sources, is_source}
 use Rattle.slotted_lookup.proofs.ReportLists.{next-fails, next-passes}
 use Rattle.slotted_match_machine.specs.declared.index.ClassRows.{ClassRows}
@@ -22,10 +23,6 @@ use Rattle.slotted_match_machine.specs.Machine.{rows_in, slot_count_in}
 use Rattle.slotted_matching.specs.Skeletons.{GrowsTo, StandsAt}
 use Rattle.slotted_matching.specs.Indexed.{AreClassRows, AreSourceRows, AreSourcesBelow, IsSourceRow}
 use Rattle.slotted_matching.proofs.Building.{OneByOne-push}
-
-pub is_some-map : {A B : Type 0} (f : A → B) (o : Option A) → is_some (option_map f o) ≡ is_some o
-is_some-map f None = refl
-is_some-map f (Some x) = refl
 
 -- what passes a test
 pub of-filter : (test : ℕ → Bool) (xs : List ℕ) (x : ℕ) → In x (filter test xs) → (test x ≡ true) × In x xs
@@ -46,10 +43,6 @@ in-filter {X} test (y ∷ xs) x t h = go (test y) refl (in-filter test xs x t) h
     go true e later (inr i) = inr (later i)
     go false e later (inl i) = absurd (false≢true (sym e ∙ (ap test (sym i) ∙ t)))
     go false e later (inr i) = later i
-
-both : (a b : Bool) → (a && b) ≡ true → (a ≡ true) × (b ≡ true)
-both true b e = (refl, e)
-both false b e = absurd (false≢true e)
 
 is-filed : (o : Option Filing) → is_some o ≡ true → (e : Filing) × (o ≡ Some e)
 is-filed None t = absurd (false≢true t)
@@ -110,7 +103,7 @@ pub grows-then : (S T U : List Form) → GrowsTo S T → GrowsTo T U → GrowsTo
 grows-then S T U a b = (a.0 ++ b.0, b.1 ∙ (ap (λ l. l ++ b.0) a.1 ∙ append_assoc S a.0 b.0))
 
 pub stands-later : (S T : List Form) (f : Form) (n : ℕ) → GrowsTo S T → StandsAt S f n → StandsAt T f n
-stands-later S T f n g e = subst (λ l. StandsAt l f n) (sym g.1) (at-append_left S g.0 n f e)
+stands-later S T f n g e = subst (λ l. StandsAt l f n) (sym g.1) (slice_get-append_left S g.0 n f e)
 
 pub OneByOne-map : {A B : Type 0} (P Q : A → B → Type 0) → ((a : A) (b : B) → P a b → Q a b) → (xs : List A) (ys : List B) → OneByOne P xs ys → OneByOne Q xs ys
 OneByOne-map P Q f [] [] h = tt

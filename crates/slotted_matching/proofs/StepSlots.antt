@@ -3,17 +3,17 @@ use Rattle.std.proofs.Common.{◌≡◌, ℕ, ◌+◌, List, [], ◌∷◌, ◌+
 use Rattle.std.specs.Prelude.{Contains, IsTrue}
 use Rattle.std.specs.declared.alloc.Global.{Global}
 use Rattle.std.proofs.lemmas.List.Elements.{Contains-append_left, Contains-append_right, Contains-append_cases, Contains-push_cases}
+use Rattle.slotted_lists.proofs.Members.{In, In-append, In-Contains, In-take, In-drop}
 use Rattle.slotted_slots.specs.Table.{Table, is_known}
 use Rattle.slotted_nodes.specs.Form.{Form, Tree, leaf, own, child, bind, scopes}
 use Rattle.slotted_languages.specs.Outline.{outlined_names}
 use Rattle.slotted_languages.proofs.NodeTerms.{own_fits, child_rest_fits, bind_inner_fits, bind_rest_fits}
-use Rattle.slotted_model.proofs.Data.Members.{In, In-append, In-Contains}
 use Rattle.slotted_patterns.specs.Known.{AreKnown}
 use Rattle.slotted_match_machine.specs.declared.program.Source.{Source}
 use Rattle.slotted_match_machine.specs.declared.program.Step.{Step}
 use Rattle.slotted_match_machine.specs.declared.program.Step.TheVariants.{Node, Variable}
 use Rattle.slotted_matching.specs.Compiled.{AreFewer, BeginsWith, HoldsSlots, KnowsEach, common_names, pattern_names}
-use Rattle.slotted_matching.proofs.KeyNames.{In-drop, In-first, In-take}
+use Rattle.slotted_matching.proofs.KeyNames.{In-first}
 use Rattle.slotted_matching.proofs.OwnSlots.{both-first, common-append, same-outlines}
 
 abbrev pub IsHeld : ℕ → List Step → List ℕ → Type 0

@@ -1,7 +1,8 @@
 -- A pattern gives way to its child patterns, which are wanted next.
-use Rattle.std.proofs.Common.{◌≡◌, ℕ, suc, ◌+◌, ◌<◌, List, [], ◌∷◌, ◌++◌, drop, map, reverse, option_to_list, Bool, true, false, refl, sym, ap, ◌∙◌, subst, arith, inl, inr}
-use Rattle.std.specs.Prelude.{Option, Some, None, ◌||◌, option_and_then}
+use Rattle.std.proofs.Common.{◌≡◌, ℕ, suc, ◌+◌, ◌<◌, List, [], ◌∷◌, ◌++◌, drop, map, reverse, option_to_list, false, refl, sym, ap, ◌∙◌, subst, arith, inl, inr}
+use Rattle.std.specs.Prelude.{Option, Some, None, option_and_then}
 use Rattle.std.proofs.lemmas.List.{reverse-append, map-append}
+use Rattle.slotted_lists.proofs.Booleans.{or-false}
 use Rattle.slotted_slots.specs.Table.{Table}
 use Rattle.slotted_nodes.specs.Form.{Form}
 use Rattle.slotted_patterns.specs.Known.{HasKnownNames, HaveKnownNames}
@@ -82,10 +83,6 @@ module _ (P : PatternTree → Type 0) (Q : PatternRow → Type 0) (parts : (p : 
   each-below (enode f row) r ws h each = each-placed r 0 row ws (h f row refl) each
   each-below (pvar v) r ws h each = each
   each-below (substitution b x t) r ws h each = each
-
-or-false : (a b : Bool) → (a || b) ≡ false → (a ≡ false) × (b ≡ false)
-or-false true b e = absurd (cc)
-or-false false b e = (refl, e)
 
 pub plain-below : (t : PatternTree) (r : ℕ) (ws : List Want) → has_substitution t ≡ false → EachWanted (λ p. has_substitution p ≡ false) ws → EachWanted (λ p. has_substitution p ≡ false) (below t r ++ ws)
 plain-below t r ws h =

@@ -6,13 +6,14 @@ use Rattle.std.specs.Char.{is_whitespace}
 use Rattle.std.specs.List.{filter}
 use Rattle.std.specs.Str.{chars, encode_utf8_all}
 use Rattle.std.proofs.lemmas.Option.{slice_get_past}
+use Rattle.slotted_lists.proofs.Booleans.{not_or-true as neither}
 use Rattle.slotted_slots.specs.Syntax.{Lexeme, word, left_paren, right_paren, left_bracket, right_bracket}
 use Rattle.slotted_slots.specs.Table.{Table, NamedOutcome, gives, too_large, no_place, named_of}
 use Rattle.slotted_patterns.specs.Tokens.{Next, nothing, token, refused, bracket_of, bracket_or, is_of_run, is_colon_equals, run, after_run, after_white_space, variable_token, named_token, slot_token, sign_or_word, token_at, next_token}
 use Rattle.slotted_messages.specs.Columns.{begins, begins_token, begins_word, columns_from, words_from, token_columns, word_columns}
 use Rattle.slotted_messages.specs.Parsed.{is_word, CountsTokens, IsColumnBehind, IsColumnOfWord, IsNonePastWords}
 use Rattle.slotted_messages.specs.declared.columns.Before.TheVariants.{Free}
-use Rattle.slotted_messages.proofs.ParserTokens.{Fits, BeginsBlack, IsMarked, black, counted, found, neither}
+use Rattle.slotted_messages.proofs.ParserTokens.{Fits, BeginsBlack, IsMarked, black, counted, found}
 
 -- white space is no bracket
 

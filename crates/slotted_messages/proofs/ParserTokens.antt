@@ -9,6 +9,7 @@ use Rattle.std.specs.Prelude.{Bool, true, false, not, ◌&&◌, ◌||◌, if◌t
 use Rattle.std.specs.Char.{is_whitespace}
 use Rattle.std.specs.List.{filter, prefix_len}
 use Rattle.std.specs.Str.{encode_utf8_all}
+use Rattle.slotted_lists.proofs.Booleans.{and-true as both}
 use Rattle.slotted_slots.specs.Syntax.{Lexeme}
 use Rattle.slotted_slots.specs.Table.{Table, NamedOutcome, gives, too_large, no_place, named_of}
 use Rattle.slotted_patterns.specs.Tokens.{Next, nothing, token, refused, bracket_of, bracket_or, is_of_run, is_colon_equals, run, after_run, after_white_space, variable_token, named_token, slot_token, sign_or_word, token_at, next_token, BeginsWith}
@@ -54,15 +55,6 @@ black [] = tt
 black (c ∷ cs) = black_behind c cs (is_whitespace c) refl (black cs)
 
 -- what a character is
-
-pub neither : (w r : Bool) → not (w || r) ≡ true → (w ≡ false) × (r ≡ false)
-neither true r h = absurd (true≢false (sym h))
-neither false true h = absurd (true≢false (sym h))
-neither false false h = (refl, refl)
-
-pub both : (a b : Bool) → (a && b) ≡ true → (a ≡ true) × (b ≡ true)
-both true b h = (refl, h)
-both false b h = absurd (true≢false (sym h))
 
 pub code_is : (x k : ℕ) → (x == k) ≡ true → x ≡ k
 code_is x k h = search (rules, tests)

@@ -9,18 +9,11 @@ use Rattle.slotted_theory.specs.Nameless.{DArgs, DTerm, stop, place, sub, scope}
 use Rattle.slotted_theory.specs.FiniteMaps.{IsInjectiveMap, with_values}
 use Rattle.slotted_theory.proofs.Values.{node}
 use Rattle.slotted_model.specs.Ascending.{IsAscending}
+pub use Rattle.slotted_lists.specs.Maps.{keys, values}
 
 -- a class id, and names for slots of the class, the slots ascending
 abbrev pub Applied : Type 0
 Applied = ℕ × List (ℕ × ℕ)
-
--- the slots that have a name
-abbrev pub keys : List (ℕ × ℕ) → List ℕ
-keys m = map (λ p. p.0) m
-
--- the names, in the order of their slots
-abbrev pub values : List (ℕ × ℕ) → List ℕ
-values m = map (λ p. p.1) m
 
 -- the keys ascend and the values are different
 abbrev pub IsMap : List (ℕ × ℕ) → Type 0

@@ -1,10 +1,10 @@
 -- Data that is carried along after a graph has come to rest.
-use Rattle.std.proofs.Common.{◌≡◌, ℕ, ◌<◌, List, [], ◌∷◌, length, sym, ◌∙◌, ap, refl, subst, inl, inr, arith}
+use Rattle.std.proofs.Common.{◌≡◌, ℕ, ◌<◌, List, [], length, sym, ◌∙◌, ap, subst, inl, inr, arith}
 use Rattle.std.specs.Prelude.{Contains, map}
 use Rattle.std.proofs.lemmas.List.{length-map}
+use Rattle.slotted_lists.proofs.Contained.{Contains-nil, map-agree}
 use Rattle.slotted_theory.specs.Nameless.{DTerm}
 use Rattle.slotted_theory.specs.Shape.{shape}
-use Rattle.slotted_theory.proofs.Lists.{contains_head, contains_tail, Contains-nil}
 use Rattle.slotted_model.specs.Classes.{canonical_node}
 use Rattle.slotted_model.specs.Cost.{child_count, AreAlike}
 use Rattle.slotted_model.specs.Find.{find_class}
@@ -25,11 +25,6 @@ use Rattle.slotted_model_analyses.proofs.Counts.{HasRunWithData, run-with}
 use Rattle.slotted_model_analyses.proofs.FiledAgain.{canonical-absorbed, normal-classes, normal-alike, map-map}
 use Rattle.slotted_model_analyses.proofs.Reaching.{DoneWithData, reaching}
 use Rattle.slotted_model_analyses.proofs.Writing.{graph-stays}
-
--- functions that agree on a list map it alike
-map-same : {X Y : Type 0} (f k : X → Y) (xs : List X) → ((x : X) → Contains xs x → f x ≡ k x) → map f xs ≡ map k xs
-map-same f k [] h = refl
-map-same f k (x ∷ xs) h = λ i. h x (contains_head x xs) i ∷ map-same f k xs (λ y c. h y (contains_tail x xs y c)) i
 
 module _ {D : Type 0} (P : DTerm → Type 0) (a : Analysis D) (law : IsMerge D a) (alike : MakesAlike P D a) (closed : (d e : DTerm) → AreAlike d e → P e → P d) where
   -- what a row makes is what the canonical node of its source makes
@@ -77,7 +72,7 @@ module _ {D : Type 0} (P : DTerm → Type 0) (a : Analysis D) (law : IsMerge D a
           let is : made a t r.shape ≡ a.make c (map (λ k. s.data_of (find_class g.found k)) (child_classes c.args)) =
           row-made h rest known_h t r there
           ∙ ((λ i. a.make (e i) (map (λ k. t.data_of (find_class h.found k)) (child_classes (e i).args)))
-          ∙ ap (a.make c) (map-same (λ k. t.data_of (find_class h.found k)) (λ k. s.data_of (find_class g.found k)) (child_classes c.args) same)) in
+          ∙ ap (a.make c) (map-agree (λ k. t.data_of (find_class h.found k)) (λ k. s.data_of (find_class g.found k)) (child_classes c.args) same)) in
           absorbs-then a law (t.data_of (find_class h.found r.source)) (s.data_of (find_class g.found r.source)) (made a t r.shape) (along.down r.source l)
           (subst (Absorbs a (s.data_of (find_class g.found r.source))) (sym is) old)
 

@@ -3,10 +3,11 @@ use Rattle.std.proofs.Common.{◌≡◌, ◌≢◌, ℕ, ◌<◌, List, [], ◌�
 use Rattle.std.specs.Prelude.{Contains, map, nat_eq}
 use Rattle.std.proofs.lemmas.Bool.{cases_eq, eq-eqb, ne_eqb}
 use Rattle.std.proofs.lemmas.List.{length-map, map-append}
+use Rattle.slotted_lists.proofs.Contained.{contains_head, contains_tail, Contains-nil}
+use Rattle.slotted_lists.proofs.Members.{In}
 use Rattle.slotted_theory.specs.Nameless.{DArgs, DTerm, stop, place, sub, scope}
 use Rattle.slotted_theory.specs.FiniteMaps.{filled}
 use Rattle.slotted_theory.specs.Shape.{free_names, shape}
-use Rattle.slotted_theory.proofs.Lists.{contains_head, contains_tail, Contains-nil}
 use Rattle.slotted_theory.proofs.Values.{node}
 use Rattle.slotted_model.specs.Ascending.{IsAscending, names}
 use Rattle.slotted_model.specs.Applied.{keys, map_on, applied_of}
@@ -18,7 +19,6 @@ use Rattle.slotted_model.specs.Normal.{normal_args, normal}
 use Rattle.slotted_model.specs.State.{Row, State, normal_node, name_numbered, child_classes}
 use Rattle.slotted_model.specs.Rest.{IsRow, IsCurrent, Sane, LookedUp}
 use Rattle.slotted_model.specs.Rebuild.{with_row, row_for, IsCovered}
-use Rattle.slotted_model.proofs.Data.Members.{In}
 use Rattle.slotted_model.proofs.Data.Sets.{IsAscending-ascending}
 use Rattle.slotted_model.proofs.Data.Maps.{map_on-agrees, map_on-filled}
 use Rattle.slotted_model.proofs.LeastTerms.Costs.{null_children-normal, child_classes-count}

@@ -3,7 +3,7 @@
 use Rattle.std.proofs.Common.{◌≢◌, ℕ, suc, ◌<◌, [], ◌∷◌, get_or, refl, sym, subst, inl, inr, arith}
 use Rattle.std.specs.Prelude.{min}
 use Rattle.std.proofs.lemmas.Bool.{cases_eq, cases_lt}
-use Rattle.slotted_theory.proofs.Lists.{contains_head, contains_cases, Contains-nil}
+use Rattle.slotted_lists.proofs.Contained.{contains_head, contains_cases, Contains-nil}
 use Rattle.slotted_model.specs.Extraction.{row_class}
 use Rattle.slotted_model.specs.Find.{find_class}
 use Rattle.slotted_model.specs.State.{Row}

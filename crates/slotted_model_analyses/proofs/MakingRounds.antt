@@ -2,7 +2,8 @@
 use Rattle.std.proofs.Common.{◌≡◌, ℕ, zero, suc, ◌+◌, ◌<◌, List, [], ◌∷◌, Bool, length, refl, inl, inr, arith}
 use Rattle.std.specs.Prelude.{Contains, nat_eq, filter}
 use Rattle.std.proofs.lemmas.Bool.{cases_eq, eq-eqb, eqb-true}
-use Rattle.slotted_theory.proofs.Lists.{contains_head, contains_tail}
+use Rattle.slotted_lists.proofs.Contained.{contains_head, contains_tail}
+use Rattle.slotted_lists.proofs.Members.{In-Contains, Contains-In}
 use Rattle.slotted_model.specs.Ascending.{ascending}
 use Rattle.slotted_model.specs.Applied.{Applied, values}
 use Rattle.slotted_model.specs.Correspondence.{identity}
@@ -12,7 +13,6 @@ use Rattle.slotted_model.specs.Rest.{IsValidIn}
 use Rattle.slotted_model.proofs.Rebuilding.Ending.{one-or-none}
 use Rattle.slotted_model.proofs.Represented.Fillings.{a_filling}
 use Rattle.slotted_model.proofs.Rebuilding.GoingOn.{used-valid}
-use Rattle.slotted_model.proofs.Data.Members.{In-Contains, Contains-In}
 use Rattle.slotted_model.proofs.Rebuilding.Refiling.{filter-keeps, filter-from}
 use Rattle.slotted_model.proofs.Data.Sets.{IsAscending-ascending, In-ascending, In-of_ascending}
 use Rattle.slotted_model_analyses.specs.Analysis.{Analysis, IsMerge}

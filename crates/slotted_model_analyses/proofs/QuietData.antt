@@ -3,9 +3,9 @@ use Rattle.std.proofs.Common.{◌≡◌, ◌≢◌, ℕ, ◌<◌, List, [], ◌�
 use Rattle.std.specs.Prelude.{Contains, map, not}
 use Rattle.std.proofs.lemmas.Bool.{eq-eqb, ne_eqb}
 use Rattle.std.proofs.lemmas.List.{length-map}
+use Rattle.slotted_lists.proofs.Contained.{contains_head, contains_tail, contains_cases}
 use Rattle.slotted_theory.specs.Nameless.{DTerm}
 use Rattle.slotted_theory.specs.Shape.{free_names, number_in, shape}
-use Rattle.slotted_theory.proofs.Lists.{contains_head, contains_tail, contains_cases}
 use Rattle.slotted_theory.proofs.Shapes.{number_in-injective}
 use Rattle.slotted_model.specs.Classes.{IsFull}
 use Rattle.slotted_model.specs.Cost.{child_count, AreAlike}

@@ -1,7 +1,7 @@
 -- Data can go along each union, turn and act; and from each sane graph a run with data leads to where nothing is left to do.
 use Rattle.std.proofs.Common.{◌≡◌, ℕ, zero, suc, ◌<◌, List, [], ◌∷◌, length, sym, refl, subst, inl, inr, arith}
 use Rattle.std.specs.Prelude.{◌⊎◌, Contains, not, nat_eq}
-use Rattle.slotted_theory.proofs.Lists.{contains_head, Contains-nil}
+use Rattle.slotted_lists.proofs.Contained.{contains_head, Contains-nil}
 use Rattle.slotted_model.specs.Correspondence.{AllDifferent}
 use Rattle.slotted_model.specs.Find.{find_class}
 use Rattle.slotted_model.specs.State.{Symmetry, State, HasTouched}

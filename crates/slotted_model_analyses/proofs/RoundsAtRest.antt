@@ -2,8 +2,8 @@
 use Rattle.std.proofs.Common.{◌≡◌, ℕ, ◌≤◌, List, [], ◌∷◌, ◌++◌, sym, ◌∙◌, ap, refl, subst, inl, inr, arith}
 use Rattle.std.specs.Prelude.{◌⊎◌, Contains}
 use Rattle.std.proofs.lemmas.List.Elements.{Contains-append_cases}
+use Rattle.slotted_lists.proofs.Contained.{contains_head, contains_tail, contains_cases, Contains-nil}
 use Rattle.slotted_theory.specs.Nameless.{DTerm}
-use Rattle.slotted_theory.proofs.Lists.{contains_head, contains_tail, contains_cases, Contains-nil}
 use Rattle.slotted_model.specs.Applied.{Applied, EachChild}
 use Rattle.slotted_model.specs.Classes.{term_of, layer_of, IsFull}
 use Rattle.slotted_model.specs.Find.{find_class, used_slots}

@@ -3,9 +3,9 @@
 use Rattle.std.proofs.Common.{◌≡◌, ◌≢◌, ℕ, zero, suc, ◌<◌, List, [], ◌∷◌, ◌++◌, Some, None, length, get_or, refl, sym, ◌∙◌, ap, subst, inl, inr, arith}
 use Rattle.std.specs.Prelude.{Contains, min}
 use Rattle.std.proofs.lemmas.Bool.{cases_eq, cases_lt}
+use Rattle.slotted_lists.proofs.Contained.{contains_head, contains_cases, Contains-nil}
 use Rattle.slotted_theory.specs.Nameless.{DTerm, stop, place}
 use Rattle.slotted_theory.specs.Shape.{shape}
-use Rattle.slotted_theory.proofs.Lists.{contains_head, contains_tail, contains_cases, Contains-nil}
 use Rattle.slotted_theory.proofs.Values.{node, child_before}
 use Rattle.slotted_model.specs.Applied.{Applied, as_term}
 use Rattle.slotted_model.specs.Classes.{canonical_node, canonical_slots, IsFull}
@@ -30,6 +30,7 @@ use Rattle.slotted_model.proofs.Rebuilding.Preparing.{Prepared, prepare}
 use Rattle.slotted_model.proofs.Examples.RestExamples.{made, p, q, with_q, q_rests}
 use Rattle.slotted_model.proofs.Rebuilding.Touching.{touching, touched-is}
 use Rattle.slotted_model.proofs.Rebuilding.Unions.{unites}
+use Rattle.slotted_model.proofs.Examples.TurnExamples.{both_slots as turned_slots}
 use Rattle.slotted_model_analyses.specs.Analysis.{Analysis, IsMerge}
 use Rattle.slotted_model_analyses.specs.DataPart.{DataPart, with_data, with_pending, taken, absorbed, Carries, RunsWithData, RestsWithData}
 use Rattle.slotted_model_analyses.specs.DataPart as with
@@ -132,18 +133,6 @@ asserted = with_assertion with_hq crossed
 
 abbrev joined : State
 joined = linked_state asserted crossed 4 0 (touching asserted 2)
-
-both_slots : (xs : List ℕ) → Contains xs 0 → Contains xs 1 → (s : ℕ) → Contains (0 ∷ 1 ∷ []) s → Contains xs s
-both_slots xs a b s c = elim (contains_cases 0 (1 ∷ []) s c) [
-  | inl e ↦ subst (Contains xs) (sym e) a
-  | inr k ↦ elim (contains_cases 1 [] s k) [
-    | inl e ↦ subst (Contains xs) (sym e) b
-    | inr j ↦ absurd (Contains-nil s j)
-  ]
-]
-
-turned_slots : (s : ℕ) → Contains (0 ∷ 1 ∷ []) s → Contains (1 ∷ 0 ∷ []) s
-turned_slots = both_slots (1 ∷ 0 ∷ []) (contains_tail 1 (0 ∷ []) 0 (contains_head 0 [])) (contains_head 1 (0 ∷ []))
 
 joined_by : Unites 4 asserted joined
 joined_by =

@@ -2,11 +2,11 @@
 -- terms and graphs against them.
 use Rattle.std.proofs.Common.{ℕ, refl, sym, subst, inr}
 use Rattle.std.specs.Prelude.{List, Option}
+use Rattle.slotted_lists.proofs.Members.{In-Contains, Contains-In}
 use Rattle.slotted_theory.proofs.Values.{node}
 use Rattle.slotted_model.specs.Applied.{Applied}
 use Rattle.slotted_model.specs.Classes.{term_of}
 use Rattle.slotted_model.specs.State.{State}
-use Rattle.slotted_model.proofs.Data.Members.{In-Contains, Contains-In}
 use Rattle.slotted_model_rules.specs.Substitution.{substituted_args}
 use Rattle.slotted_model_rules.specs.SubstitutionClaims.{SubstitutionLaws}
 use Rattle.slotted_model_rules.specs.PatternClaims.{PatternLaws}

@@ -1,7 +1,7 @@
 -- The laws of a node with two fields, from those of its fields, and of a variant, from that of what it holds.
 use Rattle.std.specs.Prelude.{◌≡◌, ℕ, suc, length, refl, Bool, true, false, IsTrue, ◌↔◌, ◌&&◌}
 use Rattle.std.proofs.Common.{arith, ap, sym, ◌∙◌, length-append}
-use Rattle.slotted_theory.proofs.Lists.{append_parts}
+use Rattle.slotted_lists.proofs.Contained.{append_parts}
 use Rattle.slotted_nodes.specs.Form.{Form, Tree, leaf, own, child, bind, join, scopes, variant, join_form}
 use Rattle.slotted_nodes.specs.Joined.{scopes-join}
 use Rattle.slotted_nodes.specs.Equal.{form_ext, tree_child, tree_bind}

@@ -1,10 +1,10 @@
 -- What was valid stays valid: in the table as names are added to it, in the graph as it grows or ids are united.
 use Rattle.std.proofs.Common.{◌≡◌, ◌≢◌, ◌⊎◌, ◌↔◌, ◌<◌, ℕ, List, [], Bool, length, ap, refl, sym, ◌∙◌, subst, inl, inr}
 use Rattle.std.specs.Prelude.{Contains, IsTrue, Option, slice_index_or}
+use Rattle.slotted_lists.proofs.Contained.{Contains-nil}
 use Rattle.slotted_theory.specs.Term.{Args, Term, done, name, child, bind}
 use Rattle.slotted_theory.specs.Nameless.{DTerm}
 use Rattle.slotted_theory.specs.Derives.{Equal}
-use Rattle.slotted_theory.proofs.Lists.{Contains-nil}
 use Rattle.slotted_slots.specs.declared.types.AppliedId.{AppliedId}
 use Rattle.slotted_slots.specs.Table.{Table, KnowsMore, is_known}
 use Rattle.slotted_terms.specs.Valid.{HasKnownNames, IsValidTerm}
@@ -80,7 +80,7 @@ only-itself g a b full f =
     (filling-iff g.canonical [] a b full).0 (record { class = f.class; full = f.full; keeps = f.keeps; fresh = λ s x h n m. Contains-nil x m })
 
 -- a findable id has different names for canonical slots of its class
-valid-over_none : (g : Graph) (a : Applied) → IsValidId g a → IsValid (λ c. []) g.image.canonical a
+pub valid-over_none : (g : Graph) (a : Applied) → IsValidId g a → IsValid (λ c. []) g.image.canonical a
 valid-over_none g a v = record { in_range = v.in_range; ascending = v.ascending; injective = v.injective; has_slots = λ s c. absurd (Contains-nil s c); within = v.within }
 
 -- an id that lacks names can be filled

@@ -1,8 +1,8 @@
 -- Ids that lack names find what any id that fills them finds: so ids that find alike still do as the graph grows or ids are united, also where
 -- they lack names.
-use Rattle.std.proofs.Common.{◌≡◌, ◌∙◌, ℕ, List, [], ◌∷◌, Option, None, Some, Bool, ap, refl, sym, subst, inl, inr}
-use Rattle.std.specs.List.{cons_option}
-use Rattle.std.specs.Prelude.{Contains, option_map, slice_index_or}
+use Rattle.std.proofs.Common.{◌≡◌, ◌∙◌, ℕ, List, [], Option, None, Some, Bool, ap, refl, sym, subst}
+use Rattle.std.specs.Prelude.{Contains, slice_index_or}
+use Rattle.slotted_lists.proofs.Members.{Contains-In}
 use Rattle.slotted_theory.specs.FiniteMaps.{value_of}
 use Rattle.slotted_theory.specs.Nameless.{DTerm}
 use Rattle.slotted_slots.specs.Table.{KnowsMore}
@@ -13,24 +13,19 @@ use Rattle.slotted_model.specs.Growth.{Extends}
 use Rattle.slotted_model.proofs.Correspondences.FullIds.{full_map}
 use Rattle.slotted_model.proofs.Correspondences.FullMaps.{full-one_name}
 use Rattle.slotted_model.proofs.Correspondences.Pairs.{Contains-key, Contains-of_key, Contains-value_of, value_of-found}
-use Rattle.slotted_model.proofs.Data.Members.{Contains-In, In}
 use Rattle.slotted_model.proofs.Data.Options.{None-Some}
+use Rattle.slotted_model.proofs.Rebuilding.Rows.{composite-agree}
 use Rattle.slotted_operations.specs.Graph.{Graph}
 use Rattle.slotted_operations.specs.Image.{AddsClasses, FoundAlike, IsUnion, found_id}
 use Rattle.slotted_operations.specs.ValidIds.{Fills, IsValidId}
 use Rattle.slotted_operations.proofs.CallerLemmas.{filled, valid_later, valid_united}
-
--- maps that say the same of what a map leads to
-composite-agrees : (A m n : List (ℕ × ℕ)) → ((t : ℕ) → In t (values A) → value_of m t ≡ value_of n t) → composite A m ≡ composite A n
-composite-agrees [] m n same = refl
-composite-agrees (p ∷ A) m n same = λ i. cons_option (option_map (λ u. (p.0, u)) (same p.1 (inl refl) i)) (composite-agrees A m n (λ t h. same t (inr h)) i)
 
 -- an id that fills another one finds what that finds
 pub filled-finds : (g : Graph) (a b : Applied) → IsValidId g a → Fills g.image a b → found_id g.image b ≡ found_id g.image a
 filled-finds g a b v f =
     let r = slice_index_or g.image.found a.0 (0, []) in
     let class : found_id g.image b ≡ (r.0, composite r.1 b.1) = ap (λ i. let e = slice_index_or g.image.found i (0, []) in (e.0, composite e.1 b.1)) f.class in
-    class ∙ ap (λ m. (r.0, m)) (composite-agrees r.1 b.1 a.1 (λ t h. agrees t (Contains-In (values r.1) t h) (value_of b.1 t) refl))
+    class ∙ ap (λ m. (r.0, m)) (composite-agree r.1 b.1 a.1 (λ t h. agrees t (Contains-In (values r.1) t h) (value_of b.1 t) refl))
   where
     -- a name of b for a slot that the class has left is one of a
     agrees : (t : ℕ) → Contains (values (slice_index_or g.image.found a.0 (0, [])).1) t → (o : Option ℕ) → value_of b.1 t ≡ o → value_of b.1 t ≡ value_of a.1 t

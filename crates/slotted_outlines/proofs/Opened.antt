@@ -3,23 +3,13 @@ use Rattle.std.proofs.Common.{◌≡◌, ℕ, suc, zero, ◌+◌, ◌-◌, ◌<�
 use Rattle.std.specs.Prelude.{Some, None, Option, false, nat_lt, cond, IsTrue, ◌↔◌}
 use Rattle.std.proofs.lemmas.Bool.{false≢true, ltb-true, lt-ltb, le-ltb, cases_lt}
 use Rattle.std.proofs.lemmas.List.{drop_more, get_or-take, get_or-drop, drop-drop, get_or_append_left, get_or-append_right}
+use Rattle.slotted_lists.proofs.Lists.{drop-drop_one}
+use Rattle.slotted_lists.proofs.Booleans.{cond-less, cond-not_less}
 use Rattle.slotted_nodes.specs.Form.{Tree, leaf, own, child, bind, scopes, children, child_place, end_at, scope_end_of}
 use Rattle.slotted_languages.specs.Outline.{outlined, marks}
 use Rattle.slotted_languages.proofs.Outlines.{length-marks}
 use Rattle.slotted_outlines.specs.Seen.{owns, stacks, opened, own_at, IsOpen}
 use Rattle.slotted_outlines.proofs.Seen.{length-owns, length-stacks}
-
--- a binder whose scope a place has, or has not
-within_scope : (x : ℕ) (bs : List ℕ) (i n : ℕ) → i < n → cond (nat_lt i n) (x ∷ bs) bs ≡ x ∷ bs
-within_scope x bs i n h = ap (λ b. cond b (x ∷ bs) bs) (lt-ltb i n h)
-
-past_scope : (x : ℕ) (bs : List ℕ) (i n : ℕ) → n ≤ i → cond (nat_lt i n) (x ∷ bs) bs ≡ bs
-past_scope x bs i n h = ap (λ b. cond b (x ∷ bs) bs) (le-ltb i n h)
-
-drop_next : (n : ℕ) (xs : List ℕ) → drop n (drop 1 xs) ≡ drop (suc n) xs
-drop_next zero [] = refl
-drop_next (suc n) [] = refl
-drop_next n (x ∷ xs) = refl
 
 index_next : (i : ℕ) (xs : List ℕ) → slice_index (drop 1 xs) i ≡ slice_index xs (suc i)
 index_next i [] = refl
@@ -41,21 +31,21 @@ pub opened-past : (u : Tree) (s : List (Option ℕ)) (xs bs : List ℕ) (i j : �
 opened-past leaf s xs bs i j e = ap (λ k. opened k s xs bs) (omega arith)
 opened-past (own r) s xs bs i zero e = absurd (omega arith)
 opened-past (own r) s xs bs i (suc j) e =
-    opened-past r s (drop 1 xs) bs i j (omega arith) ∙ ap (λ ys. opened i s ys bs) (drop_next (length (scopes (outlined r))) xs)
+    opened-past r s (drop 1 xs) bs i j (omega arith) ∙ ap (λ ys. opened i s ys bs) (drop-drop_one (length (scopes (outlined r))) xs)
 opened-past (child k ks r) s xs bs i zero e = absurd (omega arith)
 opened-past (child k ks r) s xs bs i (suc j) e =
-    opened-past r s (drop 1 xs) bs i j (omega arith) ∙ ap (λ ys. opened i s ys bs) (drop_next (length (scopes (outlined r))) xs)
+    opened-past r s (drop 1 xs) bs i j (omega arith) ∙ ap (λ ys. opened i s ys bs) (drop-drop_one (length (scopes (outlined r))) xs)
 opened-past (bind u r) s xs bs i zero e = absurd (omega arith)
 opened-past (bind u r) s xs bs i (suc j) e =
     let n = length (scopes (outlined u)) in
     let m = length (scopes (outlined r)) in
     let l = length-append (scopes (outlined u)) (scopes (outlined r)) in
     let q : suc (n + m) ≡ length (scopes (outlined (bind u r))) = omega arith in
-    ap (opened j ((scopes (outlined u) ++ scopes (outlined r)) ++ s) (drop 1 xs)) (past_scope (slice_index xs 0) bs j n (omega arith))
+    ap (opened j ((scopes (outlined u) ++ scopes (outlined r)) ++ s) (drop 1 xs)) (cond-not_less (slice_index xs 0) bs j n (omega arith))
     ∙ (rw (append_assoc (scopes (outlined u)) (scopes (outlined r)) s)
     (opened-past u (scopes (outlined r) ++ s) (drop 1 xs) bs (m + i) j (omega arith)
     ∙ (opened-past r s (drop n (drop 1 xs)) bs i (m + i) refl
-    ∙ ap (λ ys. opened i s ys bs) (drop-drop m n (drop 1 xs) ∙ (drop_next (n + m) xs ∙ ap (λ k. drop k xs) q)))))
+    ∙ ap (λ ys. opened i s ys bs) (drop-drop m n (drop 1 xs) ∙ (drop-drop_one (n + m) xs ∙ ap (λ k. drop k xs) q)))))
 
 -- the binders above a child
 pub stack_at : (u : Tree) (s : List (Option ℕ)) (xs bs : List ℕ) (k : ℕ) (d : List ℕ) → k < length (children (outlined u)) → slice_index_or (stacks bs u xs) k d ≡ opened (child_place (outlined u) k) (scopes (outlined u) ++ s) xs bs
@@ -82,7 +72,7 @@ stack_at (bind u r) s xs bs k d h =
           ∙ (stack_at u (scopes (outlined r) ++ s) (take n (drop 1 xs)) (x ∷ bs) k d b
           ∙ (opened-take p (scopes (outlined u) ++ (scopes (outlined r) ++ s)) (drop 1 xs) (x ∷ bs) n (omega arith)
           ∙ (ap (λ z. opened p z (drop 1 xs) (x ∷ bs)) (sym (append_assoc (scopes (outlined u)) (scopes (outlined r)) s))
-          ∙ (ap (opened p ((scopes (outlined u) ++ scopes (outlined r)) ++ s) (drop 1 xs)) (sym (within_scope x bs p n w))
+          ∙ (ap (opened p ((scopes (outlined u) ++ scopes (outlined r)) ++ s) (drop 1 xs)) (sym (cond-less x bs p n w))
           ∙ ap (λ z. opened (cond z (suc p) (suc (n + child_place (outlined r) (k - m)))) t xs bs) (sym (lt-ltb k m b))))))
       | inr b ↦
           let p = child_place (outlined r) (k - m) in
@@ -90,7 +80,7 @@ stack_at (bind u r) s xs bs k d h =
           ∙ (stack_at r s (drop n (drop 1 xs)) bs (k - m) d (omega arith)
           ∙ (sym (opened-past u (scopes (outlined r) ++ s) (drop 1 xs) bs p (n + p) refl)
           ∙ (ap (λ z. opened (n + p) z (drop 1 xs) bs) (sym (append_assoc (scopes (outlined u)) (scopes (outlined r)) s))
-          ∙ (ap (opened (n + p) ((scopes (outlined u) ++ scopes (outlined r)) ++ s) (drop 1 xs)) (sym (past_scope x bs (n + p) n (omega arith)))
+          ∙ (ap (opened (n + p) ((scopes (outlined u) ++ scopes (outlined r)) ++ s) (drop 1 xs)) (sym (cond-not_less x bs (n + p) n (omega arith)))
           ∙ ap (λ z. opened (cond z (suc (child_place (outlined u) k)) (suc (n + p))) t xs bs) (sym (le-ltb k m b))))))
     ]
   where
@@ -132,14 +122,14 @@ own_seen_at (bind u r) s xs bs (suc i) h =
       | inl b ↦
           let o : opened i (su ++ (sr ++ s)) (take n (drop 1 xs)) (x ∷ bs) ≡ opened (suc i) (Some n ∷ ((su ++ sr) ++ s)) xs bs =
           opened-take i (su ++ (sr ++ s)) (drop 1 xs) (x ∷ bs) n (omega arith)
-          ∙ (ap (λ z. opened i z (drop 1 xs) (x ∷ bs)) (sym (append_assoc su sr s)) ∙ ap (opened i ((su ++ sr) ++ s) (drop 1 xs)) (sym (within_scope x bs i n b))) in
+          ∙ (ap (λ z. opened i z (drop 1 xs) (x ∷ bs)) (sym (append_assoc su sr s)) ∙ ap (opened i ((su ++ sr) ++ s) (drop 1 xs)) (sym (cond-less x bs i n b))) in
           get_or_append_left ou rs 0 i (omega (arith, length-owns (x ∷ bs) u (take n (drop 1 xs))))
           ∙ (own_seen_at u (sr ++ s) (take n (drop 1 xs)) (x ∷ bs) i b
           ∙ (λ j. own_at (sym (get_or_append_left (marks u) (marks r) 0 i (omega (arith, length-marks u))) j) (sym (get_or_append_left su sr None i b) j) (o j) ((get_or-take n (drop 1 xs) i 0 b ∙ index_next i xs) j)))
       | inr b ↦
           let o : opened (i - n) (sr ++ s) (drop n (drop 1 xs)) bs ≡ opened (suc i) (Some n ∷ ((su ++ sr) ++ s)) xs bs =
           sym (opened-past u (sr ++ s) (drop 1 xs) bs (i - n) i (omega arith))
-          ∙ (ap (λ z. opened i z (drop 1 xs) bs) (sym (append_assoc su sr s)) ∙ ap (opened i ((su ++ sr) ++ s) (drop 1 xs)) (sym (past_scope x bs i n b))) in
+          ∙ (ap (λ z. opened i z (drop 1 xs) bs) (sym (append_assoc su sr s)) ∙ ap (opened i ((su ++ sr) ++ s) (drop 1 xs)) (sym (cond-not_less x bs i n b))) in
           let q : n + (i - n) ≡ i = omega arith in
           get_or-append_right ou rs n i 0 (length-owns (x ∷ bs) u (take n (drop 1 xs))) b
           ∙ (own_seen_at r s (drop n (drop 1 xs)) bs (i - n) (omega arith)
@@ -174,7 +164,7 @@ module _ (i at : ℕ) (s : List (Option ℕ)) (xs bs : List ℕ) (before : i < a
       shut None h = refl
       shut (Some n) h = elim (cases_lt at (i + 1 + n)) [
         | inl l ↦ absurd (h (i + 1 + n, refl, l))
-        | inr l ↦ past_scope (slice_index xs i) bs (at - (i + 1)) n (omega arith)
+        | inr l ↦ cond-not_less (slice_index xs i) bs (at - (i + 1)) n (omega arith)
       ]
 
   pub opened-open : IsOpen s i at → (cs : List ℕ) {os : List ℕ} → cs ≡ slice_index xs i ∷ bs → opened (at - i) (drop i s) (drop i xs) bs ≡ os → opened (at - (i + 1)) (drop (i + 1) s) (drop (i + 1) xs) cs ≡ os
@@ -187,7 +177,7 @@ module _ (i at : ℕ) (s : List (Option ℕ)) (xs bs : List ℕ) (before : i < a
           let e : ◌≡◌ {A = Option ℕ} (Some (i + 1 + n)) (Some h.0) = h.1 in
           let f : i + 1 + n ≡ h.0 = cc in
           let l = h.2 in
-          within_scope (slice_index xs i) bs (at - (i + 1)) n (omega arith)
+          cond-less (slice_index xs i) bs (at - (i + 1)) n (omega arith)
 
 -- a binder whose scope ends there is open before the end, and what is no binder is not open
 pub open_before : (s : List (Option ℕ)) (i at end : ℕ) → Some end ≡ scope_end_of s i → IsTrue (nat_lt at end) ↔ IsOpen s i at

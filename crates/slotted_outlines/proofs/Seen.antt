@@ -2,10 +2,10 @@
 use Rattle.std.proofs.Common.{◌≡◌, ℕ, suc, zero, ◌<◌, List, [], ◌∷◌, ◌++◌, length, take, drop, refl, slice_index, slice_index_or, ap, ◌∙◌, sym, arith, length-append, length-drop, length-take}
 use Rattle.std.specs.Prelude.{◌↔◌}
 use Rattle.std.proofs.lemmas.List.{same_lists}
+use Rattle.slotted_lists.proofs.Contained.{append_parts}
 use Rattle.slotted_theory.specs.Term.{Term}
 use Rattle.slotted_theory.specs.Nameless.{DTerm, stop, place, sub, scope, nameless_args, nameless_by}
 use Rattle.slotted_theory.specs.Shape.{number_in}
-use Rattle.slotted_theory.proofs.Lists.{append_parts}
 use Rattle.slotted_nodes.specs.Form.{Form, Tree, leaf, own, child, bind, scopes, children}
 use Rattle.slotted_languages.specs.Filled.{filled, children_args}
 use Rattle.slotted_languages.specs.Outline.{outlined}

@@ -14,7 +14,7 @@ in-append : (a b : List PatternTree) → subpatterns_in (row_of (a ++ b)) ≡ su
 in-append [] b = sym (append-nil (subpatterns_in (row_of b)))
 in-append (p ∷ a) b = ap (λ l. l ++ subpatterns p) (in-append a b) ∙ append_assoc (subpatterns_in (row_of b)) (subpatterns_in (row_of a)) (subpatterns p)
 
-row_of-in : (row : PatternRow) → row_of (patterns_in row) ≡ row
+pub row_of-in : (row : PatternRow) → row_of (patterns_in row) ≡ row
 row_of-in no_more = refl
 row_of-in (one_more p rest) = ap (one_more p) (row_of-in rest)
 

@@ -90,11 +90,6 @@ module _ {L : Type 0} (written : L → List Element) where
   popped_weight all rest o q last is =
       omega (arith, ap (weights written) (last ∙ ap (λ p. rest ++ option_to_list p) is), weights-append rest (q ∷ []))
 
--- a list of no elements
-pub nothing : {A : Type 0} (xs : List A) → length xs ≡ 0 → xs ≡ []
-nothing [] none = refl
-nothing (x ∷ xs) none = absurd (omega (arith, none))
-
 -- the last of a list comes first in its reverse
 pub reverse_last : {A : Type 0} (all rest : List A) (o : Option A) (x : A) → all ≡ rest ++ option_to_list o → o ≡ Some x → reverse all ≡ x ∷ reverse rest
 reverse_last all rest o x last is =

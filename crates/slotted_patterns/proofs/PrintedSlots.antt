@@ -7,8 +7,8 @@ use Rattle.std.proofs.lemmas.Option.{slice_get-get_or}
 use Rattle.std.proofs.lemmas.Str.{chars-IsAscii, IsUtf8-from_ascii}
 use Rattle.std.specs.Str.{IsAscii}
 use Rattle.std.specs.Str.Parse.{IsNumeral}
-use Rattle.slotted_slots.specs.Table.{Table, gives, too_large, Reading, as_number, as_fresh, as_word, word_outcome, outcome_of, reading_of, place_of, named_of, shown_slot, ReadsBack, IsTable}
-use Rattle.slotted_slots.proofs.NamingLaws.{gives_from_if, full_never, place_of-within, place_of-name}
+use Rattle.slotted_slots.specs.Table.{Table, gives, Reading, as_number, as_fresh, as_word, word_outcome, outcome_of, reading_of, place_of, named_of, shown_slot, ReadsBack, IsTable}
+use Rattle.slotted_slots.proofs.NamingLaws.{gives_from_if, full_never, place_of-within, place_of-name, large_never}
 use Rattle.slotted_slots.proofs.Printing.{shown_slot-numeric, shown_slot-fresh, shown_slot-name, reads_back}
 use Rattle.slotted_slots.proofs.TableLaws.{remainder_is, quotient_is, is_known-numeric_slot, is_known-fresh_slot, is_known-name_slot}
 use Rattle.slotted_nodes.specs.ReadsBack.{digits_run}
@@ -53,9 +53,6 @@ abbrev pub IsNamed : Reading → Table → List ℕ → ℕ → Type 0
 IsNamed (as_number n) u bs s = (n < 2 ^ 30) × (4 * n ≡ s)
 IsNamed (as_fresh n) u bs s = (n < 2 ^ 30) × (4 * n + 1 ≡ s) × (n < u.fresh)
 IsNamed as_word u bs s = (i : ℕ) × (4 * i + 2 ≡ s) × (i < length u.names) × (get_or u.names i [] ≡ bs)
-
-large_never : (a : ℕ) (v : Table) → too_large ≡ gives a v → ⊥
-large_never a v e = cc
 
 word_grows : (t : Table) (bs : List ℕ) (o : Option ℕ) → place_of t.names bs ≡ o → (s : ℕ) (u : Table) → word_outcome t bs o ≡ gives s u → Grows t u × IsNamed as_word u bs s
 word_grows t bs (Some i) found s u e =

@@ -7,6 +7,7 @@ use Rattle.std.specs.Str.{encode_utf8_all, chars, IsUtf8, IsAscii}
 use Rattle.std.proofs.Math.Seq.{take-append_seam, drop-append_seam}
 use Rattle.std.proofs.lemmas.Bool.{and_parts, cases_Bool, not-true, eqb-true}
 use Rattle.std.proofs.lemmas.Str.{chars-append, encodes-chars, chars-IsAscii, chars-nil, IsUtf8-from_ascii}
+use Rattle.slotted_lists.proofs.Booleans.{not_or-true as neither}
 use Rattle.slotted_slots.specs.Syntax.{Lexeme, slot, word, variable, colon_equals, left_paren, right_paren, left_bracket, right_bracket}
 use Rattle.slotted_slots.specs.Table.{Table, gives, named_of}
 use Rattle.slotted_nodes.specs.Identifier.{is_run_char, are_run_chars, begins_identifier, is_identifier, IsIdentifier}
@@ -45,11 +46,6 @@ run-append cs tail h e = ap (λ n. take n (cs ++ tail)) (run_length cs tail h e)
 
 pub after_run-append : (cs tail : List ℕ) → are_run_chars cs ≡ true → EndsRun tail → after_run (cs ++ tail) ≡ tail
 after_run-append cs tail h e = ap (λ n. drop n (cs ++ tail)) (run_length cs tail h e) ∙ drop-append_seam cs tail
-
--- neither of two tests
-neither : (a b : Bool) → not (a || b) ≡ true → (a ≡ false) × (b ≡ false)
-neither true b h = absurd (cc)
-neither false b h = (refl, not-true b h)
 
 no_bracket_or : (o : Option Lexeme) (t : Table) (c : ℕ) (cs : List ℕ) → is_some o ≡ false → bracket_or o t c cs ≡ sign_or_word t c cs
 no_bracket_or None t c cs h = refl

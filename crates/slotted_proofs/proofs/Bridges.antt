@@ -1,8 +1,9 @@
 -- The words for maps of the code and of the model, and which maps are full.
-use Rattle.std.proofs.Common.{◌≡◌, ℕ, List, [], ◌∷◌, Option, Some, None, Bool, true, false, refl, sym, ap, ◌∙◌, subst, inl, inr}
-use Rattle.std.specs.Prelude.{not, ◌==◌, ◌&&◌, ◌||◌, option_map}
+use Rattle.std.proofs.Common.{◌≡◌, ℕ, List, [], ◌∷◌, Option, Some, None, Bool, true, false, refl, sym, ◌∙◌, subst, inl, inr}
+use Rattle.std.specs.Prelude.{not, ◌&&◌, ◌||◌, option_map}
 use Rattle.std.specs.List.{filter_map, cons_option}
 use Rattle.std.proofs.lemmas.Bool.{cases_eq, eq-eqb, ne_eqb, false≢true}
+use Rattle.slotted_lists.proofs.Maps.{HasValue-is_among}
 use Rattle.slotted_theory.specs.FiniteMaps.{HasValue, IsInjectiveMap}
 use Rattle.slotted_theory.specs.FiniteMaps as model
 use Rattle.slotted_slots.specs.Ascending as slots
@@ -44,15 +45,6 @@ among_is (p ∷ m) v h = elim (cases_eq p.1 v) [
   | inr n ↦ inr (among_is m v (subst (λ (b : Bool). (b || is_among v (values m)) ≡ true) (ne_eqb p.1 v n) h))
 ]
 
-is_among-value : (m : List (ℕ × ℕ)) (v : ℕ) → HasValue m v → is_among v (values m) ≡ true
-is_among-value [] v h = absurd h
-is_among-value (p ∷ m) v (inl e) = ap (λ (b : Bool). b || is_among v (values m)) (eq-eqb p.1 v (sym e))
-is_among-value (p ∷ m) v (inr h) = or_true (p.1 == v) (is_among v (values m)) (is_among-value m v h)
-  where
-    or_true : (b c : Bool) → c ≡ true → (b || c) ≡ true
-    or_true true c e = refl
-    or_true false c e = e
-
 not_and : (b c : Bool) → (not b && c) ≡ true → (b ≡ false) × (c ≡ true)
 not_and true c h = absurd (false≢true h)
 not_and false c h = (refl, h)
@@ -70,7 +62,7 @@ pub differ_injective : (m : List (ℕ × ℕ)) → all_differ (values m) ≡ tru
 differ_injective [] h = tt
 differ_injective (p ∷ m) h =
     let q : (is_among p.1 (values m) ≡ false) × (all_differ (values m) ≡ true) = not_and (is_among p.1 (values m)) (all_differ (values m)) h in
-    (λ v. false≢true (sym q.0 ∙ is_among-value m p.1 v), differ_injective m q.1)
+    (λ v. false≢true (sym q.0 ∙ HasValue-is_among m p.1 v), differ_injective m q.1)
 
 pub injective_differ : (m : List (ℕ × ℕ)) → IsInjectiveMap m → all_differ (values m) ≡ true
 injective_differ [] h = refl

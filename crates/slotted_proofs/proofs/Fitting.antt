@@ -3,8 +3,8 @@ use Rattle.std.proofs.Common.{◌≡◌, ℕ, zero, suc, ◌<◌, List, [], ◌�
 use Rattle.std.specs.Prelude.{All, Contains, slice_index_or}
 use Rattle.std.proofs.lemmas.List.{map-append}
 use Rattle.std.proofs.lemmas.List.Elements.{All-contains_itself}
+use Rattle.slotted_lists.proofs.Contained.{contains_cases, Contains-nil}
 use Rattle.slotted_theory.specs.Nameless.{DArgs, DTerm, stop, place, sub, scope}
-use Rattle.slotted_theory.proofs.Lists.{contains_cases, Contains-nil}
 use Rattle.slotted_theory.proofs.Values.{node, child_before}
 use Rattle.slotted_model.specs.Applied.{Applied, keys, as_term, applied_of, IsApplied, EachChild}
 use Rattle.slotted_model.specs.Classes.{canonical_slots, IsFull}
@@ -32,7 +32,7 @@ pub match_is_one_statement : MatchIsOneStatement
 match_is_one_statement a b c d fa fb fc fd = (matches-state a b c d fa fb fc fd, state-matches a b c d fa fb fc fd)
 
 -- a full id has a full map
-own : (nodes : List DTerm) (a : Applied) → IsFull nodes a → IsFullMap (keys a.1) a.1
+pub own : (nodes : List DTerm) (a : Applied) → IsFull nodes a → IsFullMap (keys a.1) a.1
 own nodes a f = subst (λ K. IsFullMap K a.1) (sym f.slots) (full_map nodes a f)
 
 module _ (nodes : List DTerm) (list : List Proven) (e : Sides) (full : IsOfFull nodes e) where

@@ -1,8 +1,9 @@
 -- Numbering the names of the two sides of an equation.
-use Rattle.std.proofs.Common.{◌≡◌, ℕ, zero, suc, ◌+◌, ◌<◌, ◌≤◌, List, [], ◌∷◌, ◌++◌, length, take, drop, Option, Some, None, Bool, true, false, append_assoc, add-one, refl, sym, ap, ◌∙◌, subst, arith}
-use Rattle.std.specs.Prelude.{Contains, option_map, unwrap_or, is_some, cond, ◌==◌}
-use Rattle.std.specs.List.{cons_option}
+use Rattle.std.proofs.Common.{◌≡◌, ℕ, zero, suc, ◌+◌, ◌<◌, ◌≤◌, List, [], ◌∷◌, ◌++◌, length, take, drop, Option, Some, None, append_assoc, add-one, refl, sym, ap, ◌∙◌, subst, arith}
+use Rattle.std.specs.Prelude.{Contains, option_map, unwrap_or, is_some, cond}
 use Rattle.std.specs.Map.{values_of}
+use Rattle.slotted_lists.proofs.Maps.{value_of-with_values}
+use Rattle.slotted_lists.proofs.Options.{same_options}
 use Rattle.slotted_theory.specs.FiniteMaps.{value_of, with_values}
 use Rattle.slotted_slots.specs.Ascending.{AllAbove, IsAscending}
 use Rattle.slotted_slots.specs.Maps.{with_value_at, with_pair, composed}
@@ -11,10 +12,11 @@ use Rattle.slotted_slots.specs.Table.{numeric_slot}
 use Rattle.slotted_slots.proofs.MapLemmas.{with_pair-after}
 use Rattle.slotted_model.specs.Applied.{keys}
 use Rattle.slotted_model.specs.Correspondence.{AllDifferent, IsFullMap, IsInjectiveOn, numbered_from, numbered_after, numbered, composite, turned, flipped, same_names, IsPartialInjection, IsNumberedForm}
-use Rattle.slotted_model.proofs.Correspondences.Pairs.{Contains-flipped, Contains-of_flipped, Contains-value_of, value_of-only, same_options, Contains-composite, Contains-of_composite}
+use Rattle.slotted_model.proofs.Correspondences.Pairs.{Contains-flipped, Contains-of_flipped, Contains-value_of, value_of-only, Contains-composite, Contains-of_composite}
 use Rattle.slotted_model.proofs.Correspondences.PartialInjections.{one_partner, turned-pair, turned-by, turned-partial, composite-partial, turned-composite}
 use Rattle.slotted_model.proofs.Correspondences.FullMaps.{with_values-full, same_names-with_values, same_names-partial, same_names-turned}
 use Rattle.slotted_model.proofs.Correspondences.Numbers.{numbered-form}
+use Rattle.slotted_model.proofs.Finds.NormalIds.{composite-with_values}
 use Rattle.slotted_proofs.specs.Equations.{Statement, AreSides, named_after, numbered_left, numbered_right}
 use Rattle.slotted_proofs.proofs.Bridges.{value_of-model, composed-model}
 
@@ -54,31 +56,7 @@ pub length-numbered_from : (k : ℕ) (P : List ℕ) → length (with_values nume
 length-numbered_from k [] = refl
 length-numbered_from k (s ∷ P) = ap suc (length-numbered_from (suc k) P)
 
-pub length-keys : (m : List (ℕ × ℕ)) → length (keys m) ≡ length m
-length-keys [] = refl
-length-keys (p ∷ m) = ap suc (length-keys m)
-
 -- the name that is found is that of the number that is found
-
-option_map-cond : (f : ℕ → ℕ) (b : Bool) (x : ℕ) (o : Option ℕ) → cond b (Some (f x)) (option_map f o) ≡ option_map f (cond b (Some x) o)
-option_map-cond f true x o = refl
-option_map-cond f false x o = refl
-
-value_of-with_values : (f : ℕ → ℕ) (m : List (ℕ × ℕ)) (k : ℕ) → value_of (with_values f m) k ≡ option_map f (value_of m k)
-value_of-with_values f [] k = refl
-value_of-with_values f (p ∷ m) k =
-    ap (cond (k == p.0) (Some (f p.1))) (value_of-with_values f m k)
-    ∙ option_map-cond f (k == p.0) p.1 (value_of m k)
-
-with_values-cons_option : (f : ℕ → ℕ) (s : ℕ) (o : Option ℕ) (m : List (ℕ × ℕ)) → cons_option (option_map (λ u. (s, u)) (option_map f o)) (with_values f m) ≡ with_values f (cons_option (option_map (λ u. (s, u)) o) m)
-with_values-cons_option f s None m = refl
-with_values-cons_option f s (Some x) m = refl
-
-composite-with_values : (f : ℕ → ℕ) (A B : List (ℕ × ℕ)) → composite A (with_values f B) ≡ with_values f (composite A B)
-composite-with_values f [] B = refl
-composite-with_values f (p ∷ A) B =
-    (λ i. cons_option (option_map (λ u. (p.0, u)) (value_of-with_values f B p.1 i)) (composite-with_values f A B i))
-    ∙ with_values-cons_option f p.0 (value_of B p.1) (composite A B)
 
 pub known-name : (partners left F : List (ℕ × ℕ)) → left ≡ with_values numeric_slot F → (t : ℕ) → code.value_of (composed partners left) t ≡ option_map numeric_slot (value_of (composite partners F) t)
 known-name partners left F e t =

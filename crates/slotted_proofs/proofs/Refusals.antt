@@ -3,13 +3,13 @@ use Rattle.std.proofs.Common.{◌≡◌, ◌<◌, ◌≤◌, ℕ, Bool, false, l
 use Rattle.std.specs.Prelude.{Result, Ok, Err, IfErr, IsErrOf, IsTrue}
 use Rattle.std.proofs.lemmas.Bool.{cases_lt, false≢true}
 use Rattle.std.proofs.lemmas.Result.{IfErr-weaker}
+use Rattle.slotted_lists.proofs.Maps.{length-keys}
 use Rattle.slotted_slots.specs.declared.error.Error.{Error}
 use Rattle.slotted_slots.specs.declared.error.Error.TheVariants.{BadStep, OutOfSlots}
 use Rattle.slotted_slots.specs.Error.{IsOutOfMemory, IsShortage}
 use Rattle.slotted_model.specs.Applied.{Applied}
 use Rattle.slotted_proofs.specs.Equations.{Statement, AreSides}
 use Rattle.slotted_proofs.specs.Steps.{IsRefusal}
-use Rattle.slotted_proofs.proofs.NumberedSides.{length-keys}
 
 -- who lacks something has a step that fits
 pub fits_short : {A : Type 0} (r : Result A Error) → IfErr r IsShortage → ¬ IsErrOf r BadStep

@@ -1,22 +1,21 @@
 -- A map of names that is completed by fresh slots knows all names, and keeps apart what the map itself keeps apart.
 use Rattle.std.proofs.Common.{◌≡◌, ℕ, true, false, not, List, [], ◌∷◌, ◌++◌, Option, Some, None, refl, sym, ap, subst, inl, inr, ◌∙◌}
-use Rattle.std.specs.Prelude.{◌⊎◌, Contains}
+use Rattle.std.specs.Prelude.{◌⊎◌}
 use Rattle.std.proofs.lemmas.Bool.{cases_Bool, and_parts, and_from, true≢false, not-true}
+use Rattle.slotted_lists.proofs.Maps.{is_among-left, is_among-right}
 use Rattle.slotted_theory.specs.FiniteMaps.{IsInjectiveMap}
 use Rattle.slotted_slots.specs.Ascending.{IsAscending}
 use Rattle.slotted_slots.specs.Combining.{IsCompleted, TakesForLacked, LacksForLacked, TakesToComplete, LacksToComplete}
 use Rattle.slotted_slots.specs.Maps.{IsInEither, keys, values, value_of, is_among, all_differ, composed, doubled, with_first}
 use Rattle.slotted_slots.specs.Table.{Table, Takes, is_known}
 use Rattle.slotted_slots.proofs.Ascending.{is_among-set_of, IsAscending-set_of}
-use Rattle.slotted_slots.proofs.FreshLaws.{among_second}
 use Rattle.slotted_slots.proofs.MapLaws.{is_among-cons, is_among-first, is_among-more, is_among-value_of, is_among-key, value_of-doubled}
 use Rattle.slotted_slots.proofs.MapLemmas.{keys-doubled}
-use Rattle.slotted_slots.proofs.Taken.{takes_as, among_first}
-use Rattle.slotted_model.proofs.Correspondences.FullMaps.{at_HasValue, keys-in_order}
-use Rattle.slotted_model.proofs.Correspondences.PartialInjections.{value_of-in_order}
+use Rattle.slotted_slots.proofs.Taken.{takes_as}
+use Rattle.slotted_slots.proofs.WholeMaps.{key_of_value}
 use Rattle.slotted_proofs.specs.declared.equation.Equation.{Equation as Sides}
 use Rattle.slotted_proofs.specs.Fresh.{names_of, side_names, AreKnownOr, StaysInjective, TakesFor, TakesToSend, LacksToSend}
-use Rattle.slotted_proofs.proofs.Bridges.{among_is, injective_differ, differ_injective, value_of-model, slots-once}
+use Rattle.slotted_proofs.proofs.Bridges.{injective_differ, differ_injective}
 
 -- each of the numbers has itself
 own_name : (xs : List ℕ) (v : ℕ) → is_among v xs ≡ true → value_of (doubled xs) v ≡ Some v
@@ -56,12 +55,6 @@ sent_among (p ∷ a) c v s there found = by (value_of c p.1) refl (is_among-cons
     by (Some w) own (inr further) rest = is_among-more s w (values (composed a c)) (rest further)
     by None own (inr further) rest = rest further
 
--- a value stands at a key
-value_has_key : (c : List (ℕ × ℕ)) → IsAscending (keys c) → (z : ℕ) → is_among z (values c) ≡ true → (k : ℕ) × (value_of c k ≡ Some z)
-value_has_key c up z there =
-    let at : (k : ℕ) × Contains c (k, z) = at_HasValue c z (among_is c z there) in
-    (at.0, value_of-model c at.0 ∙ value_of-in_order (keys c) c (keys-in_order c (slots-once (keys c) up)) at.0 z at.1)
-
 among_either : (xs ys : List ℕ) (z : ℕ) → is_among z (xs ++ ys) ≡ true → IsInEither xs ys z
 among_either [] ys z there = inr there
 among_either (x ∷ xs) ys z there = elim (is_among-cons z x (xs ++ ys) there) [
@@ -82,7 +75,7 @@ module _ (old new : Table) (names : List ℕ) (m c : List (ℕ × ℕ)) (complet
   clash v w x s hv hw ev ew f g =
       let known : value_of m v ≡ Some s = f ∙ (sym (completed.sent v v x (own_name names v hv) f) ∙ ev) in
       let made = completed.made w w s (own_name names w hw) g ew in
-      true≢false (sym (among_second (values (doubled names)) (values m) s (is_among-value_of m v s known)) ∙ made.unused)
+      true≢false (sym (is_among-right (values (doubled names)) (values m) s (is_among-value_of m v s known)) ∙ made.unused)
 
   -- two names are sent to one slot only where m sends them there
   sent_alike : (v w s : ℕ) → is_among v names ≡ true → is_among w names ≡ true → value_of c v ≡ Some s → value_of c w ≡ Some s → (v ≡ w) ⊎ ((value_of m v ≡ Some s) × (value_of m w ≡ Some s))
@@ -145,10 +138,10 @@ module _ (old new : Table) (e : Sides) (m c : List (ℕ × ℕ)) (completed : Is
   its_keys = completed.same_keys ∙ keys-doubled (names_of e)
 
   left_within : (v : ℕ) → is_among v (values e.l.m) ≡ true → is_among v (names_of e) ≡ true
-  left_within v there = names-among e v ∙ among_first (values e.l.m) (values e.r.m) v there
+  left_within v there = names-among e v ∙ is_among-left (values e.l.m) (values e.r.m) v there
 
   right_within : (v : ℕ) → is_among v (values e.r.m) ≡ true → is_among v (names_of e) ≡ true
-  right_within v there = names-among e v ∙ among_second (values e.l.m) (values e.r.m) v there
+  right_within v there = names-among e v ∙ is_among-right (values e.l.m) (values e.r.m) v there
 
   pub left_stays : StaysInjective e.l.m m → IsInjectiveMap (composed e.l.m c)
   left_stays stays =
@@ -168,11 +161,11 @@ module _ (old new : Table) (e : Sides) (m c : List (ℕ × ℕ)) (completed : Is
   -- a slot that something is sent to is a name of a side that was sent on
   sent_to : (z : ℕ) → is_among z (values c) ≡ true → is_among z (values (composed e.l.m c) ++ values (composed e.r.m c)) ≡ true
   sent_to z made =
-      let key : (k : ℕ) × (value_of c k ≡ Some z) = value_has_key c (subst IsAscending (sym its_keys) (IsAscending-set_of (side_names e))) z made in
+      let key : (k : ℕ) × (value_of c k ≡ Some z) = key_of_value c (subst IsAscending (sym its_keys) (IsAscending-set_of (side_names e))) z made in
       let name : is_among key.0 (names_of e) ≡ true = ap (is_among key.0) (sym its_keys) ∙ is_among-key c key.0 z key.1 in
       elim (among_either (values e.l.m) (values e.r.m) key.0 (sym (names-among e key.0) ∙ name)) [
-        | inl left ↦ among_first (values (composed e.l.m c)) (values (composed e.r.m c)) z (sent_among e.l.m c key.0 z left key.1)
-        | inr right ↦ among_second (values (composed e.l.m c)) (values (composed e.r.m c)) z (sent_among e.r.m c key.0 z right key.1)
+        | inl left ↦ is_among-left (values (composed e.l.m c)) (values (composed e.r.m c)) z (sent_among e.l.m c key.0 z left key.1)
+        | inr right ↦ is_among-right (values (composed e.l.m c)) (values (composed e.r.m c)) z (sent_among e.r.m c key.0 z right key.1)
       ]
 
   pub takes_sent : TakesFor old new e m (values c) → TakesFor old new e m (values (composed e.l.m c) ++ values (composed e.r.m c))
@@ -194,8 +187,8 @@ module _ (old new : Table) (e : Sides) (m own : List (ℕ × ℕ)) (is_own : own
       (λ z p. elim p [
         | inl made ↦ inl made
         | inr used ↦ elim (among_either (values own) (values m) z used) [
-          | inl name ↦ inr (among_first (side_names e) (values m) z (sym (names-among e z) ∙ (ap (is_among z) (sym its_values) ∙ name)))
-          | inr sent_by ↦ inr (among_second (side_names e) (values m) z sent_by)
+          | inl name ↦ inr (is_among-left (side_names e) (values m) z (sym (names-among e z) ∙ (ap (is_among z) (sym its_values) ∙ name)))
+          | inr sent_by ↦ inr (is_among-right (side_names e) (values m) z sent_by)
         ]
       ])
 

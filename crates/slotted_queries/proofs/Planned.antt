@@ -1,14 +1,13 @@
 -- What the steps of planning say of its term.
-use Rattle.std.proofs.Common.{◌≡◌, ◌≢◌, ◌⊎◌, ◌↔◌, ◌∙◌, ◌<◌, ◌≤◌, ℕ, List, Bool, true, false, Ok, Err, IsErrOf, length, ap, arith, inl, inr, refl, subst, sym}
-use Rattle.std.specs.Prelude.{All, IsTrue, Option}
+use Rattle.std.proofs.Common.{◌≡◌, ◌≢◌, ◌⊎◌, ◌↔◌, ◌∙◌, ◌<◌, ◌≤◌, ℕ, List, Bool, true, false, Err, IsErrOf, length, ap, arith, inl, inr, refl, subst, sym}
+use Rattle.std.specs.Prelude.{IsTrue, Option}
 use Rattle.std.specs.Str.{chars}
 use Rattle.std.proofs.lemmas.Bool.{false≢true}
-use Rattle.std.proofs.lemmas.List.Elements.{All-weaker}
 use Rattle.slotted_slots.specs.declared.error.Error.{Error}
 use Rattle.slotted_slots.specs.declared.error.Error.TheVariants.{Failed}
 use Rattle.slotted_slots.specs.Error.{IsShortage}
 use Rattle.slotted_slots.specs.Syntax.{Element}
-use Rattle.slotted_languages.proofs.HandedOn.{error_or, not_refused}
+use Rattle.slotted_languages.proofs.HandedOn.{error_or, other-refusal}
 use Rattle.slotted_theory.specs.Term.{Term}
 use Rattle.slotted_theory.specs.Nameless.{DTerm, nameless}
 use Rattle.slotted_theory.specs.Derives.{Equal}
@@ -23,15 +22,12 @@ use Rattle.slotted_costs.specs.Costs.{MayRefuse, cost_of_term}
 use Rattle.slotted_operations.specs.Graph.{Graph, IsFullId, OnlyReads}
 use Rattle.slotted_operations.specs.Image.{Image, asserted_in}
 use Rattle.slotted_operations.specs.Reads.{AnswersTerm}
-use Rattle.slotted_operations.specs.ValidIds.{IsValidId}
-use Rattle.slotted_operations.proofs.CallerLemmas.{fills-itself, full-valid}
+use Rattle.slotted_operations.proofs.CallerLemmas.{fills-itself}
 use Rattle.slotted_graph.specs.Extension.{ExtendsTo}
 use Rattle.slotted_graph.specs.LeastTerms.{IsLeastTerm}
-use Rattle.slotted_graph.proofs.Extending.{extends-itself, extends-then, full-extends}
+use Rattle.slotted_graph.proofs.Extending.{extends-itself}
 use Rattle.slotted_rules.specs.Counting.{AppliesRule, SearchesRule}
 use Rattle.slotted_rules.specs.RuleOrigins.{AreFromRulesOrEdits}
-use Rattle.slotted_rules.specs.Written.{CanBeSearched}
-use Rattle.slotted_rules.specs.WrittenLaws.{valid-later}
 use Rattle.slotted_rules.specs.declared.rewrite.Rewrite.{Rewrite}
 use Rattle.slotted_rules.specs.RunOrigins.{HaveOrigins}
 use Rattle.slotted_rules.specs.Runs.{HasRun}
@@ -41,18 +37,9 @@ use Rattle.slotted_queries.specs.declared.planner.Effort.{Effort}
 use Rattle.slotted_queries.specs.declared.planner.Spent.{Spent}
 use Rattle.slotted_queries.specs.Planning.{FollowsIn, GiveRefused, LeastRefused, RunsRules, State, had_failed, leaves_within, text_refused}
 
--- where an answer was given the graph had not failed, and where it had not, a refusal is another one
-pub answered-well : {A : Type 0} (b : Bool) (x : A) → (IsErrOf {T = A} {E = Error} (Ok x) Failed ↔ IsTrue b) → b ≡ false
-answered-well true x failed = not_refused x (failed.1 refl)
-answered-well false x failed = refl
-
 pub unfailed : (b : Bool) → ¬ IsTrue b → b ≡ false
 unfailed true not = absurd (not refl)
 unfailed false not = refl
-
-pub other-refusal : {A P : Type 0} (b : Bool) (e : Error) → b ≡ false → (IsErrOf {T = A} (Err e) Failed ↔ IsTrue b) → (e ≡ Failed) ⊎ P → P
-other-refusal b e well failed (inl is) = absurd (false≢true (sym well ∙ failed.0 (ap Err is)))
-other-refusal b e well failed (inr p) = p
 
 pub refused-text : (read : List Element → Option Form) (refuses : Error → Type 0) (g h : Graph) (text : List ℕ) (e : Error) → OnlyReads g h → (IsErrOf {T = Term} (Err e) Failed ↔ IsTrue g.failed) → AnswersTerm read g h text (Err e) →
     GiveRefused read refuses g text e
@@ -68,30 +55,6 @@ least-refused refuses g e failed only = by g.failed refl
     by : (b : Bool) → g.failed ≡ b → LeastRefused refuses g e
     by true f = inl (f, ap (error_or Failed) (failed.1 f))
     by false well = inr (well, other-refusal g.failed e well failed only)
-
--- an id that stood for a term stands for it later
-pub stands-later : (g h : Graph) (id : Applied) (t : Term) → ExtendsTo g h → IsFullId g id → term_of g.image.canonical id ≡ nameless t → term_of h.image.canonical id ≡ nameless t
-stands-later g h id t e full stands = e.canonical.terms id full.full ∙ stands
-
-pub still-valid : (g h : Graph) (id : Applied) → IsFullId g id → IsTrue h.failed ⊎ ExtendsTo g h → IsTrue h.failed ⊎ IsValidId h id
-still-valid g h id full (inl failed) = inl failed
-still-valid g h id full (inr grows) = inr (full-valid h id (full-extends g h id grows full))
-
--- rules stay searchable while the graph grows
-pub can-search : {L Q : Type 0} (form : L → Form) (g h : Graph) (rules : List (Rewrite L Q)) → g.failed ≡ false → ExtendsTo g h → IsTrue g.failed ⊎ All (CanBeSearched form g.table) rules → IsTrue h.failed ⊎ All (CanBeSearched form h.table) rules
-can-search form g h rules well grows (inl failed) = absurd (false≢true (sym well ∙ failed))
-can-search form g h rules well grows (inr each) = inr (All-weaker (CanBeSearched form g.table) (CanBeSearched form h.table) (λ r v. valid-later form g h r grows v) rules each)
-
-pub grown-then : (f g h : Graph) → ExtendsTo f g → IsTrue h.failed ⊎ ExtendsTo g h → IsTrue h.failed ⊎ ExtendsTo f h
-grown-then f g h first (inl failed) = inl failed
-grown-then f g h first (inr grows) = inr (extends-then f g h first grows)
-
--- what may be refused of a run, and of an extraction, of a graph that has not failed
-pub run-refused : {P : Type 0} (e : Error) → IsShortage e ⊎ (P ⊎ (⊥ ⊎ ⊥)) → IsShortage e ⊎ P
-run-refused e (inl short) = inl short
-run-refused e (inr (inl p)) = inr p
-run-refused e (inr (inr (inl none))) = absurd none
-run-refused e (inr (inr (inr none))) = absurd none
 
 pub well-refused : (refuses : Error → Type 0) (g : Graph) (e : Error) → g.failed ≡ false → LeastRefused refuses g e → IsShortage e ⊎ MayRefuse refuses e
 well-refused refuses g e well (inl f) = absurd (false≢true (sym well ∙ f.0))

@@ -17,14 +17,14 @@ use Rattle.slotted_proofs.specs.Equations.{Statement, to_applied, equality, stat
 use Rattle.slotted_proofs.specs.Proving.{IsCanonical}
 use Rattle.slotted_proofs.specs.StepClaims.{IsOfFull}
 use Rattle.slotted_proofs.specs.Steps.{AreEntries, IsEntry, by_step}
-use Rattle.slotted_proofs.proofs.Fitting.{congruent_fits}
+use Rattle.slotted_proofs.proofs.Fitting.{congruent_fits, own}
 use Rattle.slotted_proofs.proofs.Stepping.{states-entry}
 use Rattle.slotted_classes.specs.Kept.{Kept, nodes_of, entries_of, with_proofs, EntersBy}
 use Rattle.slotted_unions.specs.Proving.{OnlyProves, Proves, ProvesEqual}
 use Rattle.slotted_classes.specs.StateOf.{state_of}
 use Rattle.slotted_classes.specs.Stored.{Stored}
 use Rattle.slotted_unions.proofs.EnteredProofs.{entering-proves, nothing-proved, only-nodes, only-stands, proved-then, proves-stands}
-use Rattle.slotted_unions.proofs.JoinedIds.{own_map, written_sides}
+use Rattle.slotted_unions.proofs.JoinedIds.{written_sides}
 use Rattle.slotted_rebuilding.specs.Congruence.{IsOfAlike, AreTwins, AreChildrenOf, ProvesSides, ProvesEach, ProvesTwins}
 
 -- the sides of an equation find alike so long as only proofs are entered
@@ -76,7 +76,7 @@ entry_of_sides l stored e fa fb p h =
     let q : equation_of a b ≡ s.equation = sym h.1 in
     let left : (equality a b).left_slots ≡ s.left_slots = fa.slots ∙ (ap (λ (x : Equation). canonical_slots (nodes_of l) x.left) q ∙ sym c.left) in
     let right : (equality a b).right_slots ≡ s.right_slots = fb.slots ∙ (ap (λ (x : Equation). canonical_slots (nodes_of l) x.right) q ∙ sym c.right) in
-    states-entry l.proofs p a b w.0 w.1 (own_map (nodes_of l) a fa) (own_map (nodes_of l) b fb) h.0 w.2
+    states-entry l.proofs p a b w.0 w.1 (own (nodes_of l) a fa) (own (nodes_of l) b fb) h.0 w.2
     (λ i. record { left_slots = left i; right_slots = right i; equation = q i })
 
 module _ (k : Kept) (e : Sides) (twins : AreTwins k e) (cs : List Sides) (children : AreChildrenOf k e cs) (m : Kept) (parts : List ℕ) (bridged : ProvesEach k m cs parts) where

@@ -3,7 +3,7 @@ use Rattle.std.proofs.Common.{◌≡◌, ◌<◌, ℕ, List, [], ◌∷◌, ◌+
 use Rattle.std.specs.Prelude.{All}
 use Rattle.std.proofs.lemmas.List.Elements.{All-nil, All-cons, All-append}
 use Rattle.std.proofs.Math.Nat.{suc_inj}
-use Rattle.slotted_theory.specs.FiniteMaps.{with_values}
+use Rattle.slotted_lists.proofs.Maps.{with_values-itself}
 use Rattle.slotted_theory.specs.Nameless.{DArgs, DTerm, stop, place, sub, scope}
 use Rattle.slotted_nodes.specs.Form.{Form}
 use Rattle.slotted_languages.specs.NodeTerm.{nameless_node}
@@ -38,12 +38,8 @@ sides_of a b = record {
   r = record { id = record { 0 = b.0 }; m = b.1 };
 }
 
-with_own : (m : List (ℕ × ℕ)) → m ≡ with_values (λ x. x) m
-with_own [] = refl
-with_own (p ∷ m) = ap (λ l. p ∷ l) (with_own m)
-
 matches_itself : (a b : Applied) → Matches a b (to_applied (sides_of a b).l) (to_applied (sides_of a b).r)
-matches_itself a b = record { left = refl; right = refl; names = record { name = λ x. x; injective = λ x y e. e; left = with_own a.1; right = with_own b.1 } }
+matches_itself a b = record { left = refl; right = refl; names = record { name = λ x. x; injective = λ x y e. e; left = with_values-itself a.1; right = with_values-itself b.1 } }
 
 module _ (k : Kept) where
   abbrev ns : List DTerm

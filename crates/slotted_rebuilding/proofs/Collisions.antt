@@ -1,6 +1,7 @@
 -- A class that takes its turn, and the other class of which the shape of its node is filed, if there is one.
 use Rattle.std.proofs.Common.{◌≡◌, ◌≢◌, ◌<◌, ◌+◌, ℕ, List, Some, length, ap, ◌∙◌, sym, subst, refl, arith}
 use Rattle.std.specs.Prelude.{Contains, IfSome, IfNone, Option, None, unwrap_or}
+use Rattle.slotted_lists.proofs.Options.{Some-same}
 use Rattle.slotted_nodes.specs.Form.{Form}
 use Rattle.slotted_theory.specs.Shape as theory
 use Rattle.slotted_languages.specs.NodeTerm.{nameless_node}
@@ -10,7 +11,6 @@ use Rattle.slotted_model.specs.Rebuild.{IsCovered, row_for}
 use Rattle.slotted_model.specs.Rest.{IsRow, IsValidIn}
 use Rattle.slotted_model.specs.State.{Row, State, child_classes, normal_node}
 use Rattle.slotted_model.proofs.Rebuilding.KeepingLookUps.{children-below}
-use Rattle.slotted_model.proofs.Data.Options.{Some-same}
 use Rattle.slotted_model.proofs.Rebuilding.Refiling.{row_for-row}
 use Rattle.slotted_classes.specs.Kept.{Kept, nodes_of}
 use Rattle.slotted_classes.proofs.KeptLists.{length-nodes_of}

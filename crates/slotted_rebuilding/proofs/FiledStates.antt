@@ -2,13 +2,13 @@
 use Rattle.std.proofs.Common.{◌≡◌, ℕ, ◌<◌, ◌≤◌, List, [], ◌++◌, Some, length, refl, ap, ◌∙◌, sym, subst, append_assoc}
 use Rattle.std.proofs.lemmas.List.{append-nil}
 use Rattle.std.specs.Prelude.{slice_get}
+use Rattle.slotted_lists.proofs.Lists.{slice_get-append_left}
 use Rattle.slotted_model.specs.Changes.{HasUnited}
 use Rattle.slotted_model.specs.State.{HasTouched}
 use Rattle.slotted_model.proofs.Rebuilding.Unions.{unites}
 use Rattle.slotted_classes.specs.Kept.{Kept, node_at}
 use Rattle.slotted_classes.proofs.KeptLists.{length-proofs_of}
 use Rattle.slotted_hashcons.specs.Filed.{filed_of}
-use Rattle.slotted_hashcons.proofs.Places.{at-append_left}
 use Rattle.slotted_hashcons.specs.FiledRows.{Rows, WaitsOn, rows_in, rows_state}
 use Rattle.slotted_languages.specs.Shape.{Fits}
 use Rattle.slotted_nodes.specs.Form.{Form}
@@ -40,7 +40,7 @@ waits-then r q s a b = record {
 
 -- who is first stays first
 pub first-still : (r q : Rows) (o : ℕ) → WaitsOn r q → IsFirst r o → IsFirst q o
-first-still r q o w f = subst (λ x. slice_get x 0 ≡ Some o) (sym w.waits) (at-append_left r.waiting w.more 0 o f)
+first-still r q o w f = subst (λ x. slice_get x 0 ≡ Some o) (sym w.waits) (slice_get-append_left r.waiting w.more 0 o f)
 
 -- canonical nodes have a name for each of their places, also in what has grown
 pub fits-grown : (k l : Kept) → Grows k l → ((i : ℕ) → i < length k.classes → Fits (node_at k i)) → (i : ℕ) → i < length l.classes → Fits (node_at l i)

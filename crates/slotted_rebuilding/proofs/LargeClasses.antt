@@ -2,13 +2,13 @@
 use Rattle.std.proofs.Common.{◌≡◌, ◌≢◌, ◌≤◌, ◌<◌, ◌+◌, ◌^◌, ◌⊎◌, ℕ, length, rules, ap, ◌∙◌, sym, subst, inl, inr, arith}
 use Rattle.std.specs.Prelude.{Result, Ok, Err, IsErrAnd, IsErrOf}
 use Rattle.std.proofs.lemmas.Bool.{cases_lt}
+use Rattle.slotted_lists.proofs.Maps.{length-keys}
 use Rattle.slotted_slots.specs.declared.error.Error.{Error}
 use Rattle.slotted_slots.specs.declared.error.Error.TheVariants.{OutOfMemory, OutOfSlots}
 use Rattle.slotted_slots.specs.Error.{IsOutOfMemory}
 use Rattle.slotted_slots.specs.Table.{slot_limit}
 use Rattle.slotted_model.specs.Applied.{Applied}
 use Rattle.slotted_model.specs.Classes.{canonical_slots, IsFull}
-use Rattle.slotted_classes.proofs.NameMaps.{length-keys}
 use Rattle.slotted_proofs.specs.declared.equation.Equation.{Equation as Sides}
 use Rattle.slotted_proofs.specs.Equations.{to_applied}
 use Rattle.slotted_classes.specs.Kept.{Kept, nodes_of}
@@ -64,7 +64,7 @@ large-either k i j hi hj much = elim (cases_lt (length (canonical_slots (nodes_o
 full-count : (k : Kept) (a : Applied) → IsFull (nodes_of k) a → length a.1 ≡ length (canonical_slots (nodes_of k) a.0)
 full-count k a full = sym (length-keys a.1) ∙ ap length full.slots
 
-full-within : (k : Kept) (a : Applied) → IsFull (nodes_of k) a → a.0 < length k.classes
+pub full-within : (k : Kept) (a : Applied) → IsFull (nodes_of k) a → a.0 < length k.classes
 full-within k a full = subst (λ n. a.0 < n) (length-nodes_of k) full.in_range
 
 -- slots run out at the congruence of twins for a large class alone

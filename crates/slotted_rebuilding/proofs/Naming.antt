@@ -2,6 +2,8 @@
 use Rattle.std.proofs.Common.{◌≡◌, ℕ, zero, suc, ◌<◌, List, [], ◌∷◌, length, sym, subst, ap, ◌∙◌, refl, arith, rules}
 use Rattle.std.specs.Prelude.{All, Contains, IsSome, slice_index_or}
 use Rattle.std.proofs.Math.Nat.{suc_inj}
+use Rattle.slotted_lists.proofs.Maps.{IsInjectiveMap-before}
+use Rattle.slotted_lists.proofs.Lists.{slice_index_or-map}
 use Rattle.slotted_slots.specs.Maps as code
 use Rattle.slotted_theory.specs.FiniteMaps.{IsInjectiveMap, filled, with_values}
 use Rattle.slotted_theory.specs.Nameless.{DTerm, stop, moved}
@@ -23,12 +25,12 @@ use Rattle.slotted_proofs.specs.Steps.{AreEntries, HasInjectiveSides, IsEntry, M
 use Rattle.slotted_alike.specs.Frames.{AreAlikeForms}
 use Rattle.slotted_rebuilding.specs.Frames.{IsCongruentIn}
 use Rattle.slotted_classes.specs.Kept.{Kept, node_at, nodes_of, no_form, no_entry}
-use Rattle.slotted_alike.proofs.Frames.{forms_twins, MatchInTurn, match_at, ids_under, injective_before}
-use Rattle.slotted_classes.proofs.KeptLists.{at-mapped, any_default}
+use Rattle.slotted_alike.proofs.Frames.{forms_twins, MatchInTurn, match_at, ids_under}
+use Rattle.slotted_classes.proofs.KeptLists.{any_default}
 
 -- the canonical node of a class is that of its form
 pub canonical-at : (k : Kept) (i : ℕ) → i < length (nodes_of k) → canonical_node (nodes_of k) i ≡ nameless_node (node_at k i)
-canonical-at k i l = any_default (nodes_of k) i (node 0 [] stop) (nameless_node no_form) l ∙ at-mapped (λ c. nameless_node c.0) k.classes i (no_form, no_entry)
+canonical-at k i l = any_default (nodes_of k) i (node 0 [] stop) (nameless_node no_form) l ∙ slice_index_or-map (λ c. nameless_node c.0) k.classes i (no_form, no_entry)
 
 has_key : (m : List (ℕ × ℕ)) (x : ℕ) → Contains (keys m) x → IsSome (code.value_of m x)
 has_key [] x c = absurd (let l = c.1 in omega arith)
@@ -70,7 +72,7 @@ own_side : (a c : Applied) (f : ℕ → ℕ) → c.1 ≡ with_values f a.1 → I
 own_side a c f e h = record {
   slots = refl;
   once = subst AllDifferent (ap keys e ∙ with_values-keys f a.1) h.once;
-  injective = injective_before f a.1 (subst IsInjectiveMap e h.injective);
+  injective = IsInjectiveMap-before f a.1 (subst IsInjectiveMap e h.injective);
 }
 
 other_side : (a c : Applied) (f : ℕ → ℕ) → c.1 ≡ with_values f a.1 → IsFullMap (keys a.1) a.1 → IsInjectiveMap c.1 → IsFullMap (keys c.1) c.1

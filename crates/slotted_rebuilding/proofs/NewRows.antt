@@ -1,8 +1,8 @@
 -- The row of a class that has none: where no other row has its shape, a graph stays sane with it, while the class waits.
 use Rattle.std.proofs.Common.{◌≢◌, ℕ, ◌<◌, ◌∷◌, length, sym, ◌∙◌, ap, refl, subst, inl, inr}
 use Rattle.std.specs.Prelude.{Contains}
+use Rattle.slotted_lists.proofs.Contained.{contains_head, contains_tail, contains_cases}
 use Rattle.slotted_theory.specs.Shape.{shape}
-use Rattle.slotted_theory.proofs.Lists.{contains_head, contains_tail, contains_cases}
 use Rattle.slotted_model.specs.Adding.{with_new_row}
 use Rattle.slotted_model.specs.Changes.{GoesOn}
 use Rattle.slotted_model.specs.Rebuild.{row_for}

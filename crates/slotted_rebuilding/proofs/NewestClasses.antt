@@ -3,9 +3,9 @@ use Rattle.std.proofs.Common.{◌≡◌, ◌<◌, ◌+◌, ℕ, suc, List, [], �
 use Rattle.std.specs.Prelude.{Contains, Option, None, set}
 use Rattle.std.proofs.lemmas.List.{get_or-set_same, length-set}
 use Rattle.std.proofs.lemmas.Option.{none-some}
+use Rattle.slotted_lists.proofs.Contained.{Contains-nil}
 use Rattle.slotted_theory.specs.Nameless.{DTerm}
 use Rattle.slotted_theory.specs.Shape as theory
-use Rattle.slotted_theory.proofs.Lists.{Contains-nil}
 use Rattle.slotted_nodes.specs.Form.{Form}
 use Rattle.slotted_languages.specs.Shape.{Fits}
 use Rattle.slotted_model.specs.Adding.{Adds, joins_row, files_row, with_new_class, with_new_row, with_quiet_row}

@@ -2,6 +2,8 @@
 use Rattle.std.proofs.Common.{◌≡◌, ◌<◌, ◌+◌, ℕ, List, [], ◌∷◌, Some, length, ◌∙◌, sym, subst, refl, inl, inr, arith}
 use Rattle.std.specs.Prelude.{Contains, slice_get}
 use Rattle.std.proofs.lemmas.Option.{none-some}
+use Rattle.slotted_lists.proofs.Contained.{contains_head, Contains-of_map}
+use Rattle.slotted_lists.proofs.Options.{Some-same}
 use Rattle.slotted_nodes.specs.Form.{Form}
 use Rattle.slotted_languages.specs.NewNames.{IsTooLarge}
 use Rattle.slotted_languages.specs.Shape.{Fits}
@@ -11,8 +13,6 @@ use Rattle.slotted_model.specs.Rebuild.{IsCovered, starts, takes_turn}
 use Rattle.slotted_model.specs.Rest.{IsRow}
 use Rattle.slotted_model.specs.State.{Row, normal_node}
 use Rattle.slotted_model.proofs.Rebuilding.Lacking.{missing-cases}
-use Rattle.slotted_model.proofs.Data.Options.{Some-same}
-use Rattle.slotted_theory.proofs.Lists.{contains_head, Contains-of_map}
 use Rattle.slotted_proofs.specs.declared.equation.Equation.{Equation as Sides}
 use Rattle.slotted_classes.specs.Kept.{Kept, node_at, nodes_of, entries_of}
 use Rattle.slotted_classes.proofs.KeptLists.{length-nodes_of}

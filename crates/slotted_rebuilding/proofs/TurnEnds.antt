@@ -4,6 +4,7 @@ use Rattle.std.specs.Prelude.{Contains, Option, None, set}
 use Rattle.std.proofs.lemmas.Bool.{cases_eq}
 use Rattle.std.proofs.lemmas.List.{get_or-set_same, get_or-set_other, length-set}
 use Rattle.std.proofs.lemmas.Option.{none-some}
+use Rattle.slotted_lists.proofs.Options.{Some-same}
 use Rattle.slotted_nodes.specs.Form.{Form}
 use Rattle.slotted_theory.specs.Shape as theory
 use Rattle.slotted_languages.specs.NodeTerm.{nameless_node}
@@ -12,7 +13,6 @@ use Rattle.slotted_model.specs.Rebuild.{IsCongruence, IsCovered, Turn, refiled_s
 use Rattle.slotted_model.specs.Rest.{Sane}
 use Rattle.slotted_model.specs.State.{Row, State, normal_node}
 use Rattle.slotted_hashcons.specs.FoundNodes.{HasNoMorePlaces, finds_of}
-use Rattle.slotted_model.proofs.Data.Options.{Some-same}
 use Rattle.slotted_classes.specs.Kept.{Kept}
 use Rattle.slotted_hashcons.specs.Filed.{Filing, filed_of}
 use Rattle.slotted_hashcons.specs.FiledRows.{Rows, rows_in, row_of_entry, TakesTurn}

@@ -1,6 +1,7 @@
 -- Where a class runs out of slots, its node is wide.
 use Rattle.std.proofs.Common.{◌≡◌, ◌≤◌, ◌+◌, ◌^◌, ℕ, List, [], ◌∷◌, ◌++◌, length, sym, ◌∙◌, ap, arith, inl, inr, length-append}
 use Rattle.std.proofs.lemmas.Bool.{cases_Bool}
+use Rattle.slotted_lists.proofs.Maps.{length-values, length-keys}
 use Rattle.slotted_theory.specs.FiniteMaps.{filled}
 use Rattle.slotted_theory.specs.Nameless.{DTerm, moved}
 use Rattle.slotted_slots.specs.Maps.{values}
@@ -19,7 +20,6 @@ use Rattle.slotted_languages.proofs.NodeSizes.{names_fit_size}
 use Rattle.slotted_alike.proofs.WideNodes.{size-moved}
 use Rattle.slotted_rebuilding.specs.Named.{IsWideClass}
 use Rattle.slotted_classes.proofs.NameCounts.{names_and_binders}
-use Rattle.slotted_classes.proofs.NameMaps.{length-keys, length-values}
 
 -- where the node of a class has too many places
 pub wide_class : (nodes : List DTerm) (i : ℕ) (f : Form) → Fits f → nameless_node f ≡ canonical_node nodes i → 2 ^ 29 ≤ length f.names → IsWideClass nodes i

@@ -8,12 +8,12 @@ use Rattle.std.proofs.lemmas.List.{map-append, take_more}
 use Rattle.std.proofs.lemmas.List.Elements.{All-cons, All-contains, All-take}
 use Rattle.std.proofs.lemmas.List.Folds.{Any-from_list_any}
 use Rattle.std.proofs.lemmas.List.Sorted.{All-permutation, Contains-permutation, IsPermutation-map, IsPermutation-push_more, IsPermutation-sym}
+use Rattle.slotted_lists.proofs.Members.{Contains-In, In, In-Contains, In-map, In-of_map}
 use Rattle.slotted_nodes.specs.Form.{Form}
 use Rattle.slotted_languages.specs.Shape.{shape}
 use Rattle.slotted_model.specs.Applied.{Applied}
 use Rattle.slotted_model.specs.Correspondence.{AllDifferent}
 use Rattle.slotted_model.proofs.Correspondences.Listing.{different-filter}
-use Rattle.slotted_model.proofs.Data.Members.{Contains-In, In, In-Contains, In-map, In-of_map}
 use Rattle.slotted_classes.specs.Kept.{Kept}
 use Rattle.slotted_classes.proofs.NameMaps.{In-at}
 use Rattle.slotted_hashcons.specs.Filed.{HasKey, HasKeysOnce}

@@ -1,15 +1,12 @@
 -- A filed node with other names put in: its names are known, and its children find.
-use Rattle.std.proofs.Common.{◌≡◌, ◌∙◌, ℕ, true, List, [], ◌∷◌, Some, length, ap, sym, subst, inl, inr}
+use Rattle.std.proofs.Common.{◌≡◌, ◌∙◌, ℕ, List, Some, length, ap, sym, subst}
 use Rattle.std.specs.Prelude.{All, Contains, IsTrue}
-use Rattle.std.proofs.lemmas.Bool.{false≢true}
-use Rattle.std.proofs.lemmas.List.Elements.{All-cons, All-nil}
+use Rattle.slotted_lists.proofs.Each.{All-from_Each}
 use Rattle.slotted_theory.specs.FiniteMaps.{filled}
 use Rattle.slotted_theory.specs.Nameless.{DTerm, moved, nameless_args}
 use Rattle.slotted_theory.proofs.Filled.{filled-injective}
 use Rattle.slotted_theory.proofs.Laws.{moved-nameless_args}
-use Rattle.slotted_slots.specs.Maps.{is_among}
 use Rattle.slotted_slots.specs.Table.{Table, is_known}
-use Rattle.slotted_slots.proofs.MapLaws.{is_among-cons}
 use Rattle.slotted_slots.proofs.TableLaws.{is_known-numeric_slot}
 use Rattle.slotted_nodes.specs.Form.{Form, scopes}
 use Rattle.slotted_languages.specs.NodeTerm.{nameless_node, node_args}
@@ -22,16 +19,14 @@ use Rattle.slotted_model.specs.Find.{Entry, find, find_map, used_slots}
 use Rattle.slotted_model.specs.Rest.{IsValidIn}
 use Rattle.slotted_model.specs.State.{State, normal_node}
 use Rattle.slotted_model.proofs.Represented.Children.{EachChild-map, EachChild-moved}
-use Rattle.slotted_model.proofs.Correspondences.Pairs.{Contains-of_value, Contains-value}
-use Rattle.slotted_model.proofs.Correspondences.PartialInjections.{composite-over}
+use Rattle.slotted_model.proofs.Correspondences.Pairs.{In-values_composite}
 use Rattle.slotted_model.proofs.Rebuilding.Events.{normal-found}
-use Rattle.slotted_model.proofs.Data.Members.{Contains-In, In, In-Contains}
 use Rattle.slotted_model.proofs.Rebuilding.Refiling.{canonical-valid}
 use Rattle.slotted_model.proofs.Represented.RenamedIds.{valid-renamed}
 use Rattle.slotted_classes.specs.ChildIds.{child_ids}
 use Rattle.slotted_classes.specs.Finding.{IsFindable}
 use Rattle.slotted_classes.specs.Kept.{Kept, nodes_of, entries_of}
-use Rattle.slotted_classes.proofs.ChildIds.{Each, EachChild-node_args}
+use Rattle.slotted_classes.proofs.ChildIds.{EachChild-node_args}
 use Rattle.slotted_classes.proofs.NameMaps.{In-at, at_In}
 use Rattle.slotted_classes.proofs.PutNames.{AreNumeric, numeric-shape}
 use Rattle.slotted_hashcons.specs.Filed.{HasKey, filed_of}
@@ -43,17 +38,6 @@ use Rattle.slotted_lookup.specs.Enodes.{AllKnownTo}
 use Rattle.slotted_reports.specs.Nodes.{key_of}
 use Rattle.slotted_lookup.proofs.AppliedNodes.{filed-in_nodes, filed-key, filed-node}
 
-pub among-in : (xs : List ℕ) (x : ℕ) → is_among x xs ≡ true → In x xs
-among-in [] x h = absurd (false≢true h)
-among-in (y ∷ ys) x h = elim (is_among-cons x y ys h) [
-  | inl e ↦ inl (sym e)
-  | inr k ↦ inr (among-in ys x k)
-]
-
-pub All-from_Each : {X : Type 0} (P : X → Type 0) (xs : List X) → Each P xs → All P xs
-All-from_Each P [] h = All-nil P
-All-from_Each P (x ∷ xs) h = All-cons P x xs h.0 (All-from_Each P xs h.1)
-
 -- the names of a shape are numbers, which each table knows
 
 pub key-known : (t : Table) (f : Form) → (shape f).0 ≡ f → AllKnownTo t f.names
@@ -63,17 +47,11 @@ key-known t f itself j d l =
 
 -- the names that are put in are names of the id
 
-pub name-of : (A m : List (ℕ × ℕ)) (x : ℕ) → In x (values (composite A m)) → In x (values m)
-name-of A m x h =
-    let p = Contains-of_value (composite A m) x (Contains-In (values (composite A m)) x h) in
-    let q = composite-over A m p.0 x p.1 in
-    In-Contains (values m) x (Contains-value m q.0 x q.2)
-
 pub names-known : (t : Table) (found : List Entry) (B : List (ℕ × ℕ)) (a : Applied) → AllKnownTo t (values a.1) → AllKnownTo t (values (composite B (find found a).1))
 names-known t found B a known j d h =
     let names : List ℕ = values (composite B (find found a).1) in
     at_In (λ s. IsTrue (is_known t s)) (values a.1) known _
-    (name-of (find_map found a.0) a.1 _ (name-of B (find found a).1 _ (In-at names j d h)))
+    (In-values_composite (find_map found a.0) a.1 _ (In-values_composite B (find found a).1 _ (In-at names j d h)))
 
 -- a node with this shape
 module _ (k : Kept) (r : Rows) (well : IsWellFiled k r) (o : ℕ) (f : Form) (m : List (ℕ × ℕ)) (at : filed_of r.filed o ≡ Some (f, m)) (quiet : ¬ Contains r.waiting o) where

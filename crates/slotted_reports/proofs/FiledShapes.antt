@@ -4,7 +4,7 @@ use Rattle.std.specs.Prelude.{Bool, is_some, ◌&&◌}
 use Rattle.std.specs.List.{filter, range_with_len}
 use Rattle.std.specs.List.Sorted.{IsPermutation}
 use Rattle.std.proofs.lemmas.Bool.{cases_Bool}
-use Rattle.std.proofs.lemmas.List.{append-nil, append_assoc, length-take-le, map-append, take_all, take_more}
+use Rattle.std.proofs.lemmas.List.{length-take-le, map-append, take_all, take_more}
 use Rattle.std.proofs.lemmas.List.Sorted.{IsPermutation-cons, IsPermutation-map, IsPermutation-refl, IsPermutation-sym, IsPermutation-to_front, IsPermutation-trans}
 use Rattle.slotted_theory.specs.FiniteMaps.{filled}
 use Rattle.slotted_theory.specs.Nameless.{DTerm}
@@ -18,6 +18,7 @@ use Rattle.slotted_languages.proofs.Shapes.{injective-shape, shape-renamed}
 use Rattle.slotted_model.specs.State.{Row}
 use Rattle.slotted_hashcons.specs.Filed.{Filing, filed_of}
 use Rattle.slotted_hashcons.specs.FiledRows.{row_at, row_of_entry, rows_from, rows_in}
+use Rattle.slotted_hashcons.proofs.FiledRows.{rows_from-append}
 use Rattle.slotted_lookup.proofs.ReportLists.{next-fails, next-passes}
 use Rattle.slotted_reports.specs.Nodes.{key_at, key_in, key_of}
 
@@ -25,17 +26,6 @@ use Rattle.slotted_reports.specs.Nodes.{key_at, key_in, key_of}
 shape-of_key : (c : Form) → Fits c → theory.shape (nameless_node (shape c).0) ≡ theory.shape (nameless_node c)
 shape-of_key c fits =
     sym (ap theory.shape (sym (shape-renamed c fits)) ∙ shape-moved (filled (shape c).1) (filled-injective (shape c).1 (injective-shape c)) (nameless_node (shape c).0))
-
--- one class more, at the end
-rows-then : (i : ℕ) (v : List (Option Filing)) (x : Option Filing) → rows_from i (v ++ x ∷ []) ≡ row_at (i + length v) x ++ rows_from i v
-rows-then i [] x =
-    let e : i ≡ i + 0 = omega arith in
-    ap (λ n. row_at n x) e ∙ sym (append-nil (row_at (i + 0) x))
-rows-then i (y ∷ v) x =
-    let e : suc i + length v ≡ i + suc (length v) = omega arith in
-    ap (λ rs. rs ++ row_at i y) (rows-then (suc i) v x)
-    ∙ ap (λ n. (row_at n x ++ rows_from (suc i) v) ++ row_at i y) e
-    ∙ append_assoc (row_at (i + suc (length v)) x) (rows_from (suc i) v) (row_at i y)
 
 map-twice : {A B C : Type 0} (f : B → C) (g : A → B) (xs : List A) → map f (map g xs) ≡ map (λ x. f (g x)) xs
 map-twice f g [] = refl
@@ -84,7 +74,7 @@ module _ (P : ℕ → Bool) where
         let long : 0 + length (take n v) ≡ n = omega (arith, length-take-le n v (omega (arith, l))) in
         let rows : rows_from 0 (take (suc n) v) ≡ row_at n (filed_of v n) ++ rows_from 0 (take n v) =
         ap (λ m. rows_from 0 (take m v)) one ∙ (ap (rows_from 0) (take_more v n None (omega (arith, l)))
-        ∙ (rows-then 0 (take n v) (filed_of v n) ∙ ap (λ m. row_at m (filed_of v n) ++ rows_from 0 (take n v)) long)) in
+        ∙ (rows_from-append 0 (take n v) (filed_of v n) ∙ ap (λ m. row_at m (filed_of v n) ++ rows_from 0 (take n v)) long)) in
         subst (λ xs. IsPermutation (shapes_in xs) (so_far (suc n))) (sym rows)
         (subst (λ m. IsPermutation (shapes_in (row_at n (filed_of v n) ++ rows_from 0 (take n v))) (so_far m)) (sym one)
         (one-more n (filed_of v n) (rows_from 0 (take n v)) refl (by-count n (omega (arith, l)))))

@@ -8,8 +8,10 @@ use Rattle.std.proofs.lemmas.List.Sorted.{Contains-permutation, IsPermutation-sy
 use Rattle.std.proofs.lemmas.List.Sums.{sum_by-cons}
 use Rattle.std.proofs.lemmas.Bool.{cases_Bool, false≢true}
 use Rattle.std.proofs.lemmas.List.Elements.{All-append, All-nil, All-push, Contains-get_or}
+use Rattle.slotted_lists.proofs.Contained.{Contains-nil, contains_cases, contains_head}
+use Rattle.slotted_lists.proofs.Members.{In, In-Contains, In-of_map}
+use Rattle.slotted_lists.proofs.Maps.{is_among-In, In-is_among}
 use Rattle.slotted_theory.specs.Nameless.{DTerm}
-use Rattle.slotted_theory.proofs.Lists.{Contains-nil, contains_cases, contains_head}
 use Rattle.slotted_theory.specs.Shape.{free_names}
 use Rattle.slotted_slots.specs.Maps as slots
 use Rattle.slotted_slots.specs.Maps.{is_among}
@@ -26,8 +28,7 @@ use Rattle.slotted_languages.proofs.PutIn.{answer_is_known}
 use Rattle.slotted_model.specs.Applied.{Applied, values}
 use Rattle.slotted_model.specs.Correspondence.{same_names}
 use Rattle.slotted_model.specs.Find.{find, find_map}
-use Rattle.slotted_model.proofs.Correspondences.Pairs.{Contains-value, Contains-value_of}
-use Rattle.slotted_model.proofs.Data.Members.{In, In-Contains, In-of_map}
+use Rattle.slotted_model.proofs.Correspondences.Pairs.{Contains-value, Contains-value_of, In-values_composite}
 use Rattle.slotted_model.proofs.Data.Theory.{free_names-moved}
 use Rattle.slotted_proofs.proofs.Bridges.{value_of-model}
 use Rattle.slotted_classes.specs.Finding.{IsFindable}
@@ -38,9 +39,8 @@ use Rattle.slotted_hashcons.specs.WellFiled.{IsWellFiled}
 use Rattle.slotted_lookup.specs.Enodes.{AllKnownTo, IsLargeKeyOf, IsMet, names_beside_of}
 use Rattle.slotted_lookup.specs.Filling.{RunsOut}
 use Rattle.slotted_lookup.proofs.EnodeNames.{beside-key, beside-looked_up}
-use Rattle.slotted_lookup.proofs.ReportLists.{In-among}
 use Rattle.slotted_reports.specs.Nodes.{AreAppliedNodes, HasLargeKeyOf, IsAppliedNode, RunsOutForKeys, TakesForKeys, key_at, key_in, key_of, places_at}
-use Rattle.slotted_reports.proofs.FiledNodes.{among-in, filed-children, filed-names_known, filed-places, name-of, names-known, same-key}
+use Rattle.slotted_reports.proofs.FiledNodes.{filed-children, filed-names_known, filed-places, names-known, same-key}
 use Rattle.slotted_reports.proofs.KeyOrder.{mapped-more}
 
 -- one key is counted alone
@@ -58,12 +58,12 @@ pub free-renamed : (t : Table) (w : List (ℕ × ℕ)) (f c : Form) (vs : List �
     is_among z (free_names_of c) ≡ true → (is_among z vs ≡ true) ⊎ (is_known t z ≡ false)
 free-renamed t w f c vs is own z h =
     let names : free_names_of c ≡ map is.by (free_names_of f) = ap (λ (d : DTerm). free_names d.args) is.renamed ∙ free_names-moved is.by (nameless_node f).args in
-    let p = In-of_map is.by (free_names_of f) z (subst (In z) names (among-in (free_names_of c) z h)) in
-    go p.0 (In-among (free_names_of f) p.0 p.1) p.2 (slots.value_of w p.0) refl
+    let p = In-of_map is.by (free_names_of f) z (subst (In z) names (is_among-In (free_names_of c) z h)) in
+    go p.0 (In-is_among (free_names_of f) p.0 p.1) p.2 (slots.value_of w p.0) refl
   where
     go : (x : ℕ) → is_among x (free_names_of f) ≡ true → z ≡ is.by x → (o : Option ℕ) → slots.value_of w x ≡ o → (is_among z vs ≡ true) ⊎ (is_known t z ≡ false)
     go x m e (Some y) v = inl (subst (λ u. is_among u vs ≡ true) (sym (e ∙ is.known x y v))
-        (In-among vs y (own y (In-Contains (values w) y (Contains-value w x y (Contains-value_of w x y (sym (value_of-model w x) ∙ v)))))))
+        (In-is_among vs y (own y (In-Contains (values w) y (Contains-value w x y (Contains-value_of w x y (sym (value_of-model w x) ∙ v)))))))
     go x m e None v = inr (subst (λ u. is_known t u ≡ false) (sym e) (is.unused x m v))
 
 -- what a table that knows more does not know
@@ -110,7 +110,7 @@ module _ (k : Kept) (r : Rows) (well : IsWellFiled k r) (o : ℕ) (f : Form) (m 
   B = same_names m (find_map (entries_of k) o)
 
   own : (x : ℕ) → In x (values w) → In x (values a.1)
-  own x h = name-of (find_map (entries_of k) a.0) a.1 x (name-of B (find (entries_of k) a).1 x (subst (λ (n : List (ℕ × ℕ)). In x (values n)) beside h))
+  own x h = In-values_composite (find_map (entries_of k) a.0) a.1 x (In-values_composite B (find (entries_of k) a).1 x (subst (λ (n : List (ℕ × ℕ)). In x (values n)) beside h))
 
   handed : AllKnownTo t (values w)
   handed = subst (λ (n : List (ℕ × ℕ)). AllKnownTo t (values n)) (sym beside) (names-known t (entries_of k) B a known)

@@ -7,8 +7,8 @@ use Rattle.std.specs.declared.cmp.Ordering.TheVariants.{Less, Equal, Greater}
 use Rattle.std.specs.Ordering.{is_lt, ordering_then}
 use Rattle.std.specs.Borrow.{Bor}
 use Rattle.std.proofs.lemmas.List.{get_or-map, length-map, map-append, map_more}
+use Rattle.slotted_lists.proofs.Each.{Each, Each-from_All}
 use Rattle.slotted_nodes.specs.Form.{Form}
-use Rattle.slotted_classes.proofs.ChildIds.{Each, Each-from_All}
 use Rattle.slotted_hashcons.specs.Filed.{Filing}
 use Rattle.slotted_reports.specs.Nodes.{HasKeyOf, key_at, key_of}
 

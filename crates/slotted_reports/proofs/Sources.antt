@@ -5,18 +5,17 @@ use Rattle.std.specs.List.{filter, range_with_len}
 use Rattle.std.specs.List.Sorted.{IsPermutation}
 use Rattle.std.proofs.lemmas.Bool.{cases_Bool, eqb-true, false≢true}
 use Rattle.std.proofs.lemmas.List.Sorted.{All-permutation}
+use Rattle.slotted_lists.proofs.Each.{Each, All-from_Each}
 use Rattle.slotted_model.specs.Applied.{Applied}
 use Rattle.slotted_model.specs.Find.{find_class}
 use Rattle.slotted_model.proofs.Finds.Finding.{find_class-live, found-live, found-in_range, leads}
 use Rattle.slotted_classes.specs.Kept.{Kept, entries_of, nodes_of}
-use Rattle.slotted_classes.proofs.ChildIds.{Each}
 use Rattle.slotted_hashcons.specs.Filed.{Filing, filed_of}
 use Rattle.slotted_hashcons.specs.FiledRows.{IsFiled, Rows}
 use Rattle.slotted_hashcons.specs.WellFiled.{IsWellFiled}
 use Rattle.slotted_lookup.specs.Reports.{class_sources, is_source}
 use Rattle.slotted_lookup.proofs.AppliedNodes.{filed-in_nodes}
 use Rattle.slotted_reports.specs.Nodes.{IsSourceOf}
-use Rattle.slotted_reports.proofs.FiledNodes.{All-from_Each}
 
 -- what passes a test
 each-passes : (P : ℕ → Type 0) (test : ℕ → Bool) (xs : List ℕ) → ((x : ℕ) → test x ≡ true → P x) → Each P (filter test xs)

@@ -1,9 +1,11 @@
 -- The arguments of a node with names: without bound names they are those of the nameless node, their ids are its children, and each name of a binder
 -- stands at one.
-use Rattle.std.proofs.Common.{◌≡◌, ℕ, zero, suc, ◌+◌, ◌<◌, List, [], ◌∷◌, ◌++◌, length, take, drop, sym, ◌∙◌, ap, refl, subst, inl, inr, arith, slice_index, length-drop, length-take}
+use Rattle.std.proofs.Common.{◌≡◌, ℕ, suc, ◌+◌, ◌<◌, List, ◌∷◌, ◌++◌, length, take, drop, sym, ◌∙◌, ap, refl, subst, inl, inr, arith, slice_index, length-drop, length-take}
 use Rattle.std.specs.Prelude.{Contains, Option, Some, None, IsSome, map, slice_index_or}
 use Rattle.std.specs.List.{zip}
 use Rattle.std.proofs.lemmas.List.{get_or-take, get_or-drop, get_or_append_left, get_or-append-add, length-map}
+use Rattle.slotted_lists.proofs.Members.{In, In-append, In-Contains}
+use Rattle.slotted_lists.proofs.Lists.{drop-drop_one}
 use Rattle.slotted_theory.specs.Nameless.{place, scope, extend, nameless_args}
 use Rattle.slotted_theory.proofs.Values.{child_before}
 use Rattle.slotted_nodes.specs.Form.{Form, Tree, leaf, own, child, bind, scopes, end_at}
@@ -11,7 +13,6 @@ use Rattle.slotted_languages.specs.NodeTerm.{node_args, nameless_node}
 use Rattle.slotted_languages.specs.Shape.{Fits}
 use Rattle.slotted_languages.specs.Children.{IsBound}
 use Rattle.slotted_languages.proofs.NodeTerms.{own_fits, child_keys_fit, child_rest_fits, bind_inner_fits, bind_rest_fits}
-use Rattle.slotted_model.proofs.Data.Members.{In, In-append, In-Contains}
 use Rattle.slotted_classes.specs.ChildIds.{ids_in, child_ids}
 use Rattle.slotted_classes.proofs.ChildIds.{atom-is}
 use Rattle.slotted_model_rules.specs.Matcher.{unnamed, bound_names}
@@ -84,11 +85,6 @@ inside u r xs y fits b =
       named = sym (get_or-drop 1 xs b.place 0) ∙ (sym (get_or-take m (drop 1 xs) b.place 0 l) ∙ b.named);
     }
 
-drop-twice : (m : ℕ) (xs : List ℕ) → drop m (drop 1 xs) ≡ drop (suc m) xs
-drop-twice zero [] = refl
-drop-twice (suc m) [] = refl
-drop-twice m (x ∷ xs) = refl
-
 bound : (u : Tree) (xs : List ℕ) (y : ℕ) → length xs ≡ length (scopes u) → In y (bound_names (args_of u xs)) → HasBinder u xs y
 bound leaf xs y n h = absurd h
 bound (own r) xs y n h = later r (own r) xs 1 y (λ j. after_one None (scopes r) j) (bound r (drop 1 xs) y (own_fits r xs n) h)
@@ -101,10 +97,10 @@ bound (bind u r) xs y n (inr h) =
       | inl k ↦ inside u r xs y (bind_inner_fits u r xs n) (bound u (take m (drop 1 xs)) y (bind_inner_fits u r xs n) k)
       | inr k ↦
           let b = bound r (drop m (drop 1 xs)) y (bind_rest_fits u r xs n) k in
-          later r (bind u r) xs (suc m) y (λ j. after_more (Some m) (scopes u) (scopes r) j) (subst (λ zs. HasBinder r zs y) (drop-twice m xs) b)
+          later r (bind u r) xs (suc m) y (λ j. after_more (Some m) (scopes u) (scopes r) j) (subst (λ zs. HasBinder r zs y) (drop-drop_one m xs) b)
     ]
 
-some_end : (i : ℕ) (o : Option ℕ) → IsSome o → IsSome (end_at i o)
+pub some_end : (i : ℕ) (o : Option ℕ) → IsSome o → IsSome (end_at i o)
 some_end i None h = h
 some_end i (Some n) h = refl
 

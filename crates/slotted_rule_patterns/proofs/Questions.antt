@@ -185,11 +185,6 @@ mutual
       ∙ (neither (is_some (first_such is_miscounted p)) (is_some (row_such is_miscounted rest))
       ∙ ((λ i. asks-miscount p i && asks-miscounts rest i) ∙ sym (both-some (λ q qs. q ∷ qs) (pattern_in p) (patterns_in rest))))
 
--- an answer that is lent is there or not
-pub asked-lent : {A B : Type 0} (f : A → B) (o : Option A) → is_some (option_map f o) ≡ is_some o
-asked-lent f None = refl
-asked-lent f (Some x) = refl
-
 -- whether a node has another number of child patterns
 module _ {L : Type 0} (form : L → Form) (p : Tree L) (n : L) (ps : Vec (Tree L) Global) (is : p ≡ ENode n ps) where
   pub miscounted-node : (count many : ℕ) → count ≡ length ps.items → many ≡ length (children (form n).tree) → not (count == many) ≡ is_miscounted (tree_of form p)

@@ -2,6 +2,8 @@
 use Rattle.std.proofs.Common.{◌≡◌, ◌∙◌, ap, refl, sym, subst, inl, inr, ℕ, zero, suc, List, [], ◌∷◌, ◌++◌, length, take, drop, arith, slice_index, length-append, length-take, length-drop}
 use Rattle.std.specs.Prelude.{IsTrue, Contains, Bool}
 use Rattle.std.proofs.lemmas.List.{take_at, drop_at}
+use Rattle.slotted_lists.proofs.Each.{Each, Each-take, Each-drop}
+use Rattle.slotted_lists.proofs.Maps.{zip-keys_values}
 use Rattle.slotted_slots.specs.Table.{Table, is_known, AllKnown}
 use Rattle.slotted_slots.specs.Maps.{keys, values}
 use Rattle.slotted_theory.specs.Nameless.{DTerm, scope, extend, nameless_args}
@@ -12,7 +14,7 @@ use Rattle.slotted_languages.proofs.NodeTerms.{own_fits, child_rest_fits, bind_i
 use Rattle.slotted_model.specs.Applied.{Applied, as_term, renamed_id}
 use Rattle.slotted_model.specs.Classes.{term_of}
 use Rattle.slotted_model.specs.Growth.{Extends}
-use Rattle.slotted_classes.proofs.ChildIds.{Each, atom-is, zip-keys_values}
+use Rattle.slotted_classes.proofs.ChildIds.{atom-is}
 use Rattle.slotted_lookup.specs.Filling.{tree_over, names_over}
 use Rattle.slotted_lookup.proofs.NodesOver.{names_fit, over_fits}
 use Rattle.slotted_graph.specs.Graph.{Graph}
@@ -29,7 +31,7 @@ use Rattle.slotted_rules.specs.Methods.{Method, unknown, canonical, extracted, r
 use Rattle.slotted_rules.specs.Instances.{Instantiates}
 use Rattle.slotted_rules.specs.Stacked.{Makes}
 use Rattle.slotted_rules.proofs.Growing.{grows-then}
-use Rattle.slotted_rules.proofs.NodesOver.{Each-take, Each-drop, first-of}
+use Rattle.slotted_rules.proofs.NodesOver.{first-of}
 use Rattle.slotted_rules.proofs.Putting.{representatives-longer}
 
 -- what represents a term

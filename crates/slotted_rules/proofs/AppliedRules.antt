@@ -25,10 +25,6 @@ ok-well P false r x is fails = refl
 pub not-failed : {A : Type 0} (r : Result A Error) (e : Error) → r ≡ Err e → (b : Bool) → b ≡ false → IsErrOf r Failed ↔ IsTrue b → e ≢ Failed
 not-failed r e is b well failed same = absurd (false≢true (sym well ∙ failed.0 (is ∙ ap Err same)))
 
-pub not-failed-so : {P : Type 0} (b : Bool) → b ≡ false → IsTrue b ⊎ P → P
-not-failed-so b well (inl failed) = absurd (false≢true (sym well ∙ failed))
-not-failed-so b well (inr p) = p
-
 -- and a refusal after which it has failed is a shortage
 pub shortage_of : {A : Type 0} (r : Result A Error) (e : Error) → r ≡ Err e → e ≢ Failed → IsErrAnd r (λ x. (x ≡ Failed) ⊎ IsShortage x) → IsShortage e
 shortage_of {A} r e is other fails = elim (subst (λ (s : Result A Error). IsErrAnd s (λ x. (x ≡ Failed) ⊎ IsShortage x)) is fails) [

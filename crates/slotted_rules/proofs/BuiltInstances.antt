@@ -3,6 +3,7 @@ use Rattle.std.proofs.Common.{◌≡◌, ◌∙◌, ap, refl, sym, subst, inl, i
 use Rattle.std.specs.Prelude.{IsTrue, Contains, Some, is_some, slice_index_or}
 use Rattle.std.proofs.lemmas.Bool.{cases_eq}
 use Rattle.std.proofs.lemmas.List.Elements.{Contains-append_left, Contains-append_right, Contains-append_cases}
+use Rattle.slotted_lists.proofs.Each.{Each-from_All}
 use Rattle.slotted_slots.specs.Table.{is_known, AllKnown}
 use Rattle.slotted_theory.specs.Nameless.{DTerm}
 use Rattle.slotted_theory.proofs.Values.{node}
@@ -21,7 +22,6 @@ use Rattle.slotted_model_rules.proofs.Laws.{pattern-laws}
 use Rattle.slotted_model_rules.proofs.Substitutions.ReplacedIds.{filled-stays}
 use Rattle.slotted_patterns.specs.Known.{AreKnown}
 use Rattle.slotted_patterns.specs.Tree.{PatternTree, enode, pvar, substitution, row_of}
-use Rattle.slotted_classes.proofs.ChildIds.{Each-from_All}
 use Rattle.slotted_lookup.specs.Filling.{node_over}
 use Rattle.slotted_operations.proofs.CallerLemmas.{full-valid}
 use Rattle.slotted_graph.proofs.Extending.{extends-itself}

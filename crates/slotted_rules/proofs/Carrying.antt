@@ -11,17 +11,11 @@ use Rattle.slotted_graph.specs.Extension.{ExtendsTo}
 use Rattle.slotted_graph.specs.Graph.{Graph, OnlyTakesSlots}
 use Rattle.slotted_graph.specs.Image.{Image}
 use Rattle.slotted_graph.proofs.Extending.{extends-itself, extends-takes, extends-then}
-use Rattle.slotted_graph.proofs.Saying.{carried-lowers, lowers-same, lowers-then}
+use Rattle.slotted_graph.proofs.Saying.{carried-lowers, lowers-same, lowers-then, notes-then}
 use Rattle.slotted_rules.specs.Carried.{CarriesAlong, CarriesIf}
 
 notes-itself : {D : Type 0} (values : List D) (changed : List ℕ) → NotesChanges values changed values changed
 notes-itself values changed = record { kept = λ i c. c; same = λ i y is none. is }
-
-notes-then : {D : Type 0} (values later last : List D) (changed more all : List ℕ) → NotesChanges values changed later more → NotesChanges later more last all → NotesChanges values changed last all
-notes-then values later last changed more all first second = record {
-  kept = λ i c. second.kept i (first.kept i c);
-  same = λ i y is none. first.same i y (second.same i y is none) (λ c. none (second.kept i c));
-}
 
 module _ {N D : Type 0} (codes : Coded N × Coded D) (meaning : N → Meaning D) where
   same-part : (g : Graph) (p q : Part N D) → KeepsPart codes g p → KeepsPart codes g q → p ≡ q

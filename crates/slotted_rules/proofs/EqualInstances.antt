@@ -1,13 +1,13 @@
 -- Where rules without conditions were applied, instances of both sides are equal by what is asserted, for each match.
 use Rattle.std.proofs.Common.{◌≡◌, ◌∙◌, List, refl, sym, subst, inl, inr}
 use Rattle.std.specs.Prelude.{◌<◌, ℕ, Bool, false, length, Contains}
+use Rattle.slotted_lists.proofs.Members.{In, In-Contains}
 use Rattle.slotted_nodes.specs.Form.{Form}
 use Rattle.slotted_theory.specs.Nameless.{DTerm}
 use Rattle.slotted_patterns.specs.Tree.{PatternTree}
 use Rattle.slotted_patterns.specs.View.{tree_of}
 use Rattle.slotted_model.specs.ProofList.{HoldsFrom, equation_at}
 use Rattle.slotted_model.proofs.Finds.FindProofs.{proved-holds}
-use Rattle.slotted_model.proofs.Data.Members.{In, In-Contains}
 use Rattle.slotted_model_rules.specs.Conditions.{Values}
 use Rattle.slotted_model_rules.specs.Rules.{Rule}
 use Rattle.slotted_model_rules.specs.Runners.{AppliesAll, AppliesRules, SearchesAll, none_applied, none_searched, one_applied, one_searched}

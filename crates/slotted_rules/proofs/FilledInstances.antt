@@ -4,6 +4,8 @@ use Rattle.std.specs.Prelude.{◌⊎◌, Bool, true, false, Contains, IsTrue, So
 use Rattle.std.proofs.lemmas.Bool.{cases_eq}
 use Rattle.std.proofs.lemmas.List.Elements.{All-contains, Contains-append_right}
 use Rattle.std.proofs.Math.Nat.{suc_inj}
+use Rattle.slotted_lists.proofs.Contained.{contains_cases, contains_head, Contains-map, Contains-of_map}
+use Rattle.slotted_lists.proofs.Maps.{keys-with_values}
 use Rattle.slotted_slots.specs.Maps.{values}
 use Rattle.slotted_slots.specs.Table.{AllKnown, Table, is_known}
 use Rattle.slotted_nodes.specs.Form.{Form}
@@ -15,13 +17,11 @@ use Rattle.slotted_theory.specs.Decided.{numbers_eq}
 use Rattle.slotted_theory.specs.FiniteMaps.{with_values}
 use Rattle.slotted_theory.specs.Nameless.{DArgs, DTerm, extend}
 use Rattle.slotted_theory.specs.Renaming.{IsInjective}
-use Rattle.slotted_theory.proofs.Lists.{contains_cases, contains_head, Contains-map, Contains-of_map}
 use Rattle.slotted_theory.proofs.Names.{extend-injective, extend-other}
 use Rattle.slotted_model.specs.Applied.{Applied, renamed_id}
 use Rattle.slotted_model.specs.Classes.{term_of}
 use Rattle.slotted_model.specs.Filling.{IsFilling}
 use Rattle.slotted_model.specs.ProofList.{Equation}
-use Rattle.slotted_model.proofs.Data.Maps.{keys-with_values}
 use Rattle.slotted_model.proofs.Represented.Fillings.{filling-iff}
 use Rattle.slotted_model.proofs.Represented.Full.{full-renamed}
 use Rattle.slotted_model_rules.specs.Conditions.{Values}

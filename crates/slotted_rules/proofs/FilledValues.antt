@@ -14,6 +14,7 @@ use Rattle.std.proofs.lemmas.Cmp.{nat_list_cmp_total}
 use Rattle.std.proofs.lemmas.List.{append_assoc, map-append}
 use Rattle.std.proofs.lemmas.List.Elements.{All-append, All-head, All-push, All-tail}
 use Rattle.std.proofs.lemmas.Map.Keys.{sorted_head, sorted_tail}
+use Rattle.slotted_lists.proofs.Each.{Each-append, Each-from_All}
 use Rattle.slotted_slots.specs.Maps.{values}
 use Rattle.slotted_slots.specs.Table.{AllKnown, KnowsMore, Table, is_known}
 use Rattle.slotted_slots.specs.declared.types.AppliedId.{AppliedId}
@@ -24,7 +25,6 @@ use Rattle.slotted_proofs.specs.Equations.{to_applied}
 use Rattle.slotted_model.specs.Applied.{Applied}
 use Rattle.slotted_model.specs.Growth.{Extends}
 use Rattle.slotted_model.proofs.Represented.Fillings.{fills-itself}
-use Rattle.slotted_classes.proofs.ChildIds.{Each-append, Each-from_All}
 use Rattle.slotted_operations.proofs.CallerLemmas.{full-valid, takes_twice}
 use Rattle.slotted_graph.specs.Graph.{Graph, IsFullId, OnlyTakesSlots}
 use Rattle.slotted_graph.specs.Image.{Image}

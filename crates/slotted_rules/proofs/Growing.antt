@@ -1,39 +1,20 @@
 -- One part built after another is built, and taking slots and adding a node build.
-use Rattle.std.proofs.Common.{◌∙◌, ap, refl, sym, subst, inl, inr}
+use Rattle.std.proofs.Common.{◌∙◌, ap, refl, subst, inl, inr}
 use Rattle.std.specs.Prelude.{◌⊎◌, IsTrue}
 use Rattle.slotted_slots.specs.Table.{KnowsMore}
 use Rattle.slotted_model.specs.Applied.{Applied}
 use Rattle.slotted_model.specs.Classes.{Canonical}
 use Rattle.slotted_model.specs.Growth.{Extends}
-use Rattle.slotted_operations.proofs.Graphs.FreshSlots.{fresh_slots-more}
 use Rattle.slotted_graph.specs.Graph.{Graph, IsFullId, OnlyTakesSlots}
 use Rattle.slotted_graph.specs.Image.{AddsClasses, Image, asserted_in}
 use Rattle.slotted_graph.specs.States.{IsGraph}
 use Rattle.slotted_graph.specs.Extension.{ExtendsTo}
 use Rattle.slotted_graph.proofs.Extending.{extends-itself, extends-then, extends-takes, extends-added, full-extends}
+use Rattle.slotted_graph.proofs.StatesLater.{graph-takes}
 use Rattle.slotted_rules.specs.Building.{Grows, Builds}
 
 pub graph-canonical : (g : Graph) → IsGraph g → Canonical g.image.canonical
 graph-canonical g h = subst (λ (x : Image). Canonical x.canonical) h.is_state.image h.is_state.good.stored.sane.sound.canonical
-
--- fresh slots leave a graph one
-pub graph-takes : (g h : Graph) → IsGraph g → OnlyTakesSlots g h → IsGraph h
-graph-takes g h is takes =
-    let s = is.is_state in
-    record {
-      well = takes.reads.failed ∙ is.well;
-      state = is.state;
-      is_state = record {
-        kept = s.kept;
-        rows = s.rows;
-        good = s.good;
-        rests = s.rests;
-        fresh = fresh_slots-more g.table h.table s.kept takes.reads.more s.fresh;
-        image = s.image ∙ sym takes.reads.image;
-        filed = s.filed ∙ sym takes.reads.filed;
-        state = s.state;
-      };
-    }
 
 pub builds-itself : (g : Graph) → IsGraph g → Builds g g
 builds-itself g is = record { grows = record { graph = is; extends = extends-itself g }; asserts = refl }

@@ -1,11 +1,12 @@
 -- What a union of two instances leaves in the proof list.
-use Rattle.std.proofs.Common.{◌≡◌, ◌∙◌, ap, refl, sym, subst, inl, inr, ℕ, zero, suc, ◌+◌, ◌<◌, ◌≤◌, List, [], ◌∷◌, ◌++◌, length, map, arith, length-append}
+use Rattle.std.proofs.Common.{◌≡◌, ◌∙◌, ap, refl, sym, subst, inl, inr, ℕ, ◌+◌, ◌<◌, ◌≤◌, List, [], ◌∷◌, ◌++◌, length, arith, length-append}
 use Rattle.std.specs.Prelude.{Bool, Option, Some, slice_index_or}
 use Rattle.std.proofs.lemmas.List.{length-map}
 use Rattle.std.proofs.lemmas.List.Elements.{Contains-append_left, Contains-append_right}
+use Rattle.slotted_lists.proofs.Contained.{Contains-nil}
+use Rattle.slotted_lists.proofs.Lists.{slice_index_or-map}
 use Rattle.slotted_slots.specs.Table.{AllKnown}
 use Rattle.slotted_theory.specs.Nameless.{DTerm}
-use Rattle.slotted_theory.proofs.Lists.{Contains-nil}
 use Rattle.slotted_patterns.specs.Tree.{PatternTree}
 use Rattle.slotted_proofs.specs.Equations.{to_applied}
 use Rattle.slotted_proofs.specs.Entries.{Proven, entry_of, entries_of, nothing_proven, proven_at, asserted_entry}
@@ -17,6 +18,7 @@ use Rattle.slotted_model_rules.specs.Conditions.{Values}
 use Rattle.slotted_model_rules.specs.Instances.{IsAnswer}
 use Rattle.slotted_model_rules.specs.Rules.{IsEquationOfInstances, Rule, valued}
 use Rattle.slotted_model_rules.proofs.Patterns.Instantiating.{answer-instances}
+use Rattle.slotted_model_rules.proofs.Rules.Applying.{fewer-given as last-given}
 use Rattle.slotted_graph.specs.Graph.{Graph}
 use Rattle.slotted_graph.specs.Image.{FillApart, Image, asserted_in}
 use Rattle.slotted_graph.specs.States.{IsGraph}
@@ -41,20 +43,12 @@ valid-filling g given a v =
 fewer-given : (nodes : List DTerm) (xs ys : List ℕ) (a b : Applied) → IsFilling nodes (xs ++ ys) a b → IsFilling nodes xs a b
 fewer-given nodes xs ys a b f = record { class = f.class; full = f.full; keeps = f.keeps; fresh = λ s x c none has. f.fresh s x c none (Contains-append_left xs ys x has) }
 
-last-given : (nodes : List DTerm) (xs ys : List ℕ) (a b : Applied) → IsFilling nodes (xs ++ ys) a b → IsFilling nodes ys a b
-last-given nodes xs ys a b f = record { class = f.class; full = f.full; keeps = f.keeps; fresh = λ s x c none has. f.fresh s x c none (Contains-append_right xs ys x has) }
-
 -- the entries of a graph are those of the model
 graph-entries : (h : Graph) → IsGraph h → h.image.entries ≡ entries_of h.image.stored
 graph-entries h is = subst (λ (x : Image). x.entries ≡ entries_of x.stored) is.is_state.image refl
 
-map-at : {A B : Type 0} (f : A → B) (xs : List A) (n : ℕ) (d : A) → slice_index_or (map f xs) n (f d) ≡ f (slice_index_or xs n d)
-map-at f [] n d = refl
-map-at f (x ∷ xs) zero d = refl
-map-at f (x ∷ xs) (suc n) d = map-at f xs n d
-
 entry-at : (h : Graph) → IsGraph h → (n : ℕ) → slice_index_or h.image.entries n (entry_of nothing_proven) ≡ entry_of (proven_at h.image.stored n)
-entry-at h is n = ap (λ (l : List ProofEntry). slice_index_or l n (entry_of nothing_proven)) (graph-entries h is) ∙ map-at entry_of h.image.stored n nothing_proven
+entry-at h is n = ap (λ (l : List ProofEntry). slice_index_or l n (entry_of nothing_proven)) (graph-entries h is) ∙ slice_index_or-map entry_of h.image.stored n nothing_proven
 
 pub stored-length : (h : Graph) → IsGraph h → length h.image.entries ≡ length h.image.stored
 stored-length h is = ap length (graph-entries h is) ∙ length-map h.image.stored entry_of

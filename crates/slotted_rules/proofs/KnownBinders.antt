@@ -1,6 +1,7 @@
 -- A table that knows the names of a pattern knows those of its binders.
 use Rattle.std.proofs.Common.{◌≡◌, sym, subst, ℕ, List, [], ◌∷◌, ◌++◌, length, take, drop, map}
 use Rattle.std.specs.Prelude.{IsTrue, Some}
+use Rattle.slotted_lists.proofs.Each.{Each, Each-take, Each-drop}
 use Rattle.slotted_slots.specs.Table.{Table, is_known}
 use Rattle.slotted_nodes.specs.Form.{Form, Tree, leaf, own, child, bind, scopes, children}
 use Rattle.slotted_languages.specs.Shape.{Fits}
@@ -11,11 +12,10 @@ use Rattle.slotted_patterns.specs.View.{tree_of, tree_step}
 use Rattle.slotted_patterns.specs.declared.pattern.Pattern.{Pattern}
 use Rattle.slotted_patterns.specs.declared.pattern.Pattern.TheOpen.{Pattern-F}
 use Rattle.slotted_patterns.specs.declared.pattern.Pattern.TheFolds.{fold-roll-Pattern, ind-Pattern, map-Pattern}
-use Rattle.slotted_classes.proofs.ChildIds.{Each}
 use Rattle.slotted_model_rules.specs.Patterns as model
 use Rattle.slotted_rule_patterns.specs.PatternCode.{filled_pattern, pattern_in, patterns_in}
 use Rattle.slotted_rule_patterns.proofs.Parts.{first-parts, node-parts, replacing-parts}
-use Rattle.slotted_rules.proofs.NodesOver.{Each-drop, Each-take, first-of}
+use Rattle.slotted_rules.proofs.NodesOver.{first-of}
 
 abbrev mutual
   -- the table knows the name of each binder

@@ -2,7 +2,6 @@
 use Rattle.std.proofs.Common.{◌≡◌, ◌∙◌, ap, refl, sym, ℕ, zero, suc, ◌+◌, ◌-◌, ◌<◌, ◌≤◌, List, [], ◌∷◌, ◌++◌, length, map, take, drop, arith, append_assoc, append-nil, length-append, length-drop, length-take, zero-add, inl, inr, slice_index}
 use Rattle.std.specs.Prelude.{Option, None, set}
 use Rattle.std.proofs.lemmas.Bool.{cases_lt}
-use Rattle.std.proofs.lemmas.Grind.{common_steps}
 use Rattle.std.proofs.lemmas.List.{drop-set-add, drop-set-lt, drop_all, drop_at, length-map, take-append-drop, take-set-le, take_all, take_at}
 use Rattle.std.proofs.Math.Nat.{sub-zero}
 use Rattle.slotted_slots.specs.Maps.{keys, values}
@@ -11,6 +10,7 @@ use Rattle.slotted_nodes.specs.Form.{Form, Tree, leaf, own, child, bind, scopes,
 use Rattle.slotted_nodes.proofs.Pairs.{with_child_left, with_child_right}
 use Rattle.slotted_languages.specs.Shape.{Fits}
 use Rattle.slotted_languages.proofs.NodeTerms.{own_fits, child_rest_fits, bind_inner_fits, bind_rest_fits}
+use Rattle.slotted_languages.proofs.Outlines.{below_binder}
 use Rattle.slotted_model.specs.Applied.{Applied}
 use Rattle.slotted_classes.specs.ChildIds.{child_ids}
 use Rattle.slotted_classes.proofs.ChildIds.{length-ids}
@@ -20,9 +20,6 @@ use Rattle.slotted_rules.specs.Stacked.{ids_before, over_ids}
 
 part : Tree → List ℕ → Form
 part t xs = record { operator = 0; payloads = []; tree = t; names = xs }
-
-below_binder : (x : ℕ) (g : Form) (k j : ℕ) (ls xs : List ℕ) → k < length (children g.tree) → with_child (bind_form x g) k j ls xs ≡ bind_form x (with_child g k j ls xs)
-below_binder x g k j ls xs h = grind (arith, common_steps)
 
 -- the tree and its names over these ids
 over : Tree → List ℕ → List Applied → Form

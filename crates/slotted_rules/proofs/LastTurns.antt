@@ -1,7 +1,8 @@
 -- The last turn that is stored.
 use Rattle.std.proofs.Common.{◌≡◌, suc, ◌-◌, List, [], ◌∷◌, length, map, Some, ap, sym, subst, arith}
 use Rattle.std.specs.Prelude.{slice_get}
-use Rattle.slotted_model.proofs.Data.Options.{None-Some, Some-same}
+use Rattle.slotted_lists.proofs.Options.{Some-same}
+use Rattle.slotted_model.proofs.Data.Options.{None-Some}
 use Rattle.slotted_model_rules.specs.Runners.{last_finish}
 use Rattle.slotted_rules.specs.declared.iteration.Iteration as stored
 use Rattle.slotted_rules.specs.Seen.{iteration_of}

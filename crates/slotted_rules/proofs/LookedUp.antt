@@ -2,6 +2,8 @@
 use Rattle.std.proofs.Common.{◌≡◌, ◌∙◌, ap, refl, sym, subst, ℕ, suc, ◌<◌, List, [], ◌∷◌, length, arith}
 use Rattle.std.specs.Prelude.{All, IsSome, IsTrue, None, Option, Some, is_some, option_and_then, slice_index_or}
 use Rattle.std.proofs.lemmas.Bool.{false≢true}
+use Rattle.slotted_lists.proofs.Members.{In}
+use Rattle.slotted_lists.proofs.Each.{Each, Each-from_All}
 use Rattle.slotted_slots.specs.Table.{is_known, AllKnown}
 use Rattle.slotted_slots.specs.Maps.{values}
 use Rattle.slotted_theory.specs.Term.{Term}
@@ -17,11 +19,10 @@ use Rattle.slotted_model.specs.Applied.{Applied, EachChild}
 use Rattle.slotted_model.specs.LookUp.{look_up}
 use Rattle.slotted_model.specs.State.{look_up_node}
 use Rattle.slotted_model.proofs.Represented.LookUps.{Renames}
-use Rattle.slotted_model.proofs.Data.Members.{In}
 use Rattle.slotted_model.proofs.Rebuilding.Rows.{look_up_node-moved}
 use Rattle.slotted_classes.specs.ChildIds.{child_ids}
 use Rattle.slotted_classes.specs.Finding.{IsFindable}
-use Rattle.slotted_classes.proofs.ChildIds.{Each, Each-from_All, EachChild-node_args}
+use Rattle.slotted_classes.proofs.ChildIds.{EachChild-node_args}
 use Rattle.slotted_classes.proofs.KeptLists.{any_default}
 use Rattle.slotted_classes.proofs.NameMaps.{In-at, at_In}
 use Rattle.slotted_hashcons.specs.WellFiled.{state_in}

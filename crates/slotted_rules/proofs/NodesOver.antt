@@ -4,6 +4,8 @@ use Rattle.std.proofs.Common.{◌≡◌, ℕ, zero, suc, ◌<◌, List, [], ◌�
 use Rattle.std.specs.Prelude.{slice_index_or, slice_set, IsTrue, All}
 use Rattle.std.specs.List.{zip}
 use Rattle.std.proofs.lemmas.List.{take_at, drop_at}
+use Rattle.slotted_lists.proofs.Each.{Each, Each-from_All, Each-join, Each-take, Each-drop, All-from_Each}
+use Rattle.slotted_lists.proofs.Maps.{zip-keys_values, length-values, length-keys}
 use Rattle.slotted_slots.specs.Table.{Table, is_known, AllKnown}
 use Rattle.slotted_slots.specs.Maps.{keys, values}
 use Rattle.slotted_nodes.specs.Form.{Form, Tree, leaf, own, child, bind, scopes, children, with_child}
@@ -11,38 +13,18 @@ use Rattle.slotted_languages.specs.Shape.{Fits}
 use Rattle.slotted_languages.proofs.NodeTerms.{own_fits, child_rest_fits, bind_inner_fits, bind_rest_fits}
 use Rattle.slotted_model.specs.Applied.{Applied}
 use Rattle.slotted_classes.specs.ChildIds.{child_ids}
-use Rattle.slotted_classes.proofs.ChildIds.{Each, Each-from_All, zip-keys_values}
-use Rattle.slotted_classes.proofs.NameMaps.{length-keys, length-values}
 use Rattle.slotted_lookup.specs.Filling.{tree_over, names_over, node_over}
 use Rattle.slotted_lookup.proofs.NodesOver.{names_fit, over_fits}
 use Rattle.slotted_operations.proofs.TermsOverIds.Children.{plugs}
-use Rattle.slotted_operations.proofs.TermsOverIds.Layers.{each_at}
 use Rattle.slotted_model_rules.specs.Matcher.{an_id, a_binder}
 use Rattle.slotted_model_rules.specs.ReplacedIds.{HasOtherIds}
 use Rattle.slotted_rule_patterns.specs.NodeArguments.{args_of, node_arguments}
 
 -- lists of which something holds
 
-pub Each-take : {X : Type 0} (P : X → Type 0) (n : ℕ) (xs : List X) → Each P xs → Each P (take n xs)
-Each-take P zero xs h = tt
-Each-take P (suc n) [] h = tt
-Each-take P (suc n) (x ∷ xs) h = (h.0, Each-take P n xs h.1)
-
-pub Each-drop : {X : Type 0} (P : X → Type 0) (n : ℕ) (xs : List X) → Each P xs → Each P (drop n xs)
-Each-drop P zero xs h = h
-Each-drop P (suc n) [] h = tt
-Each-drop P (suc n) (x ∷ xs) h = Each-drop P n xs h.1
-
-Each-join : {X : Type 0} (P : X → Type 0) (xs ys : List X) → Each P xs → Each P ys → Each P (xs ++ ys)
-Each-join P [] ys h k = k
-Each-join P (x ∷ xs) ys h k = (h.0, Each-join P xs ys h.1 k)
-
 pub first-of : (P : ℕ → Type 0) (xs : List ℕ) (n : ℕ) → length xs ≡ suc n → Each P xs → P (slice_index xs 0)
 first-of P [] n e h = absurd (omega (arith, e))
 first-of P (x ∷ xs) n e h = h.0
-
-pub All-Each : {X : Type 0} (P : X → Type 0) (xs : List X) → Each P xs → All P xs
-All-Each P xs h k d l = each_at P xs k d l h
 
 -- names
 
@@ -69,7 +51,7 @@ known-over t f bs fits known each =
     let P : ℕ → Type 0 = λ s. IsTrue (is_known t s) in
     let ids : Each (λ (b : Applied). Each P (values b.1)) bs =
     Each-from_All (λ (b : Applied). Each P (values b.1)) bs (λ k d l. Each-from_All P (values (slice_index_or bs k d).1) (each k d l)) in
-    All-Each P (node_over f bs).names (names-over P f.tree f.names bs fits (Each-from_All P f.names known) ids)
+    All-from_Each P (node_over f bs).names (names-over P f.tree f.names bs fits (Each-from_All P f.names known) ids)
 
 -- arguments
 

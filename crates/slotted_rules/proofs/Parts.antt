@@ -2,11 +2,11 @@
 use Rattle.std.proofs.Common.{◌≡◌, ◌∙◌, ap, refl, sym, ℕ, zero, suc, ◌<◌, List, [], ◌∷◌, ◌++◌, length, arith}
 use Rattle.std.specs.Prelude.{All, Option, Some, None, IsSome, is_some, true, slice_index_or}
 use Rattle.std.proofs.lemmas.Bool.{false≢true}
+use Rattle.slotted_lists.proofs.Each.{Each-from_All, Each-append, All-from_Each}
 use Rattle.slotted_slots.specs.Table.{KnowsMore, Table, AllKnown}
 use Rattle.slotted_nodes.specs.Form.{Form, children}
 use Rattle.slotted_patterns.specs.Known.{AreKnown, HasKnownNames, HaveKnownNames}
 use Rattle.slotted_patterns.specs.Tree.{PatternTree, enode, pvar, substitution, PatternRow, no_more, one_more, row_of}
-use Rattle.slotted_classes.proofs.ChildIds.{Each-from_All, Each-append}
 use Rattle.slotted_model_rules.specs.Conditions.{Values}
 use Rattle.slotted_model_rules.specs.Patterns.{Pattern, variable}
 use Rattle.slotted_rule_patterns.specs.PatternCode.{pattern_in, patterns_in}
@@ -14,7 +14,6 @@ use Rattle.slotted_rule_patterns.specs.Variables.{has_value, variables_of, varia
 use Rattle.slotted_rule_patterns.proofs.Whole.{length-patterns}
 use Rattle.slotted_rule_patterns.proofs.Parts.{node-parts, replacing-parts, first-parts}
 use Rattle.slotted_rules.specs.Stacked.{IsReady}
-use Rattle.slotted_rules.proofs.NodesOver.{All-Each}
 
 -- the pattern with this number
 abbrev pub pattern_at : List PatternTree → ℕ → PatternTree
@@ -48,10 +47,10 @@ Has : Values → List ℕ → Type 0
 Has s v = has_value s v ≡ true
 
 pub values-left : (s : Values) (vs ws : List (List ℕ)) → All (λ v. has_value s v ≡ true) (vs ++ ws) → All (λ v. has_value s v ≡ true) vs
-values-left s vs ws h = All-Each (λ v. has_value s v ≡ true) vs (Each-append (λ v. has_value s v ≡ true) vs ws (Each-from_All (λ v. has_value s v ≡ true) (vs ++ ws) h)).0
+values-left s vs ws h = All-from_Each (λ v. has_value s v ≡ true) vs (Each-append (λ v. has_value s v ≡ true) vs ws (Each-from_All (λ v. has_value s v ≡ true) (vs ++ ws) h)).0
 
 pub values-right : (s : Values) (vs ws : List (List ℕ)) → All (λ v. has_value s v ≡ true) (vs ++ ws) → All (λ v. has_value s v ≡ true) ws
-values-right s vs ws h = All-Each (λ v. has_value s v ≡ true) ws (Each-append (λ v. has_value s v ≡ true) vs ws (Each-from_All (λ v. has_value s v ≡ true) (vs ++ ws) h)).1
+values-right s vs ws h = All-from_Each (λ v. has_value s v ≡ true) ws (Each-append (λ v. has_value s v ≡ true) vs ws (Each-from_All (λ v. has_value s v ≡ true) (vs ++ ws) h)).1
 
 -- whole patterns
 

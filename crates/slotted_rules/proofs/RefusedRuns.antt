@@ -1,11 +1,11 @@
 -- Refusals of runs, once the graph has failed where memory or slots were lacking.
 use Rattle.std.proofs.Common.{◌≡◌, ◌∙◌, ℕ, List, Option, true, Result, Ok, Err, IfErr, ap, refl, sym, subst, inl, inr, arith}
 use Rattle.std.specs.Prelude.{◌⊎◌, IsErrAnd, IsTrue}
+use Rattle.slotted_lists.proofs.Options.{Some-same}
 use Rattle.slotted_slots.specs.declared.error.Error.{Error}
 use Rattle.slotted_slots.specs.declared.error.Error.TheVariants.{OutOfMemory, OutOfSlots}
 use Rattle.slotted_slots.specs.Error.{IsShortage, number_of}
 use Rattle.slotted_operations.specs.Graph.{Graph}
-use Rattle.slotted_model.proofs.Data.Options.{Some-same}
 use Rattle.slotted_model_rules.specs.Runners.{Iteration, Limits, Measures, RunnerRefuses, refused_later, refused_now, runner_report}
 use Rattle.slotted_rules.specs.declared.report.Report.{Report}
 use Rattle.slotted_rules.specs.RunLoops.{HasStopped, IsRefusedWithin, IsReportOf, report_refused_within, turn_refused_within}

@@ -2,11 +2,11 @@
 use Rattle.std.proofs.Common.{◌≡◌, ◌∙◌, ◌<◌, ◌≤◌, ◌++◌, ◌∷◌, ℕ, List, length, map, ap, sym, subst, refl, inl, inr, arith}
 use Rattle.std.specs.Prelude.{◌⊎◌, Bool, Contains, drop, slice_index_or, string_bytes}
 use Rattle.std.proofs.lemmas.Bool.{cases_lt}
+use Rattle.slotted_lists.proofs.Members.{In, Contains-In}
 use Rattle.slotted_slots.specs.declared.error.Error.{Error}
 use Rattle.slotted_nodes.specs.Form.{Form}
 use Rattle.slotted_patterns.specs.View.{tree_of}
 use Rattle.slotted_model.specs.ProofList.{ProofEntry, explicit, step_at}
-use Rattle.slotted_model.proofs.Data.Members.{In, Contains-In}
 use Rattle.slotted_model_rules.specs.Conditions.{Values}
 use Rattle.slotted_model_rules.specs.Runners.{AppliesAll, AppliesRules, SearchesAll, none_applied, none_searched, one_applied, one_searched}
 use Rattle.slotted_operations.specs.Graph.{Graph}

@@ -1,6 +1,6 @@
 -- What a comparison of two ids says.
-use Rattle.std.proofs.Common.{◌≡◌, ◌≢◌, ◌∙◌, sym, ap, refl}
-use Rattle.std.specs.Prelude.{Bool, true, false, ◌&&◌, ◌||◌, nat_eq, not}
+use Rattle.std.proofs.Common.{◌≡◌, ◌≢◌, ◌∙◌, sym, ap}
+use Rattle.std.specs.Prelude.{Bool, true, false, ◌&&◌, nat_eq, not}
 use Rattle.std.specs.Cmp.Lexicographic.{pointwise}
 use Rattle.std.proofs.lemmas.Bool.{false≢true}
 use Rattle.slotted_slots.specs.declared.types.AppliedId.{AppliedId}
@@ -22,7 +22,3 @@ other-ids a b e same =
 pub not-false : (b : Bool) → not b ≡ false → b ≡ true
 not-false true e = λ i. true
 not-false false e = absurd (false≢true (sym e))
-
-pub neither : (a b : Bool) → (a || b) ≡ false → (a ≡ false) × (b ≡ false)
-neither true b e = absurd (false≢true (sym e))
-neither false b e = (refl, e)

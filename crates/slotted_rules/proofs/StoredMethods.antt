@@ -2,12 +2,12 @@
 use Rattle.std.proofs.Common.{◌≡◌, ◌∙◌, ap, sym, subst, inl, inr, ℕ, zero, suc, ◌<◌, List, [], ◌∷◌, Option, arith}
 use Rattle.std.specs.Prelude.{◌⊎◌, IsTrue, IfOk, Contains, OnErr, Result, Ok, Err, slice_index_or}
 use Rattle.std.specs.Ordering.{nat_cmp}
+use Rattle.slotted_lists.proofs.Contained.{contains_head}
 use Rattle.slotted_slots.specs.declared.error.Error.{Error}
 use Rattle.slotted_slots.specs.declared.types.AppliedId.{AppliedId}
 use Rattle.slotted_slots.specs.Table.{KnowsMore}
 use Rattle.slotted_theory.specs.Nameless.{DTerm, nameless}
 use Rattle.slotted_theory.specs.Term.{Term}
-use Rattle.slotted_theory.proofs.Lists.{contains_head}
 use Rattle.slotted_nodes.specs.Form.{Form}
 use Rattle.slotted_model.specs.Applied.{Applied}
 use Rattle.slotted_model.specs.Classes.{term_of}

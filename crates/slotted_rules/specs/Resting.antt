@@ -1,7 +1,7 @@
 -- A rule that rests finds nothing, which can be applied as what a search finds can.
 use Rattle.std.proofs.Common.{◌≡◌, List, [], sym, subst, inl, inr}
 use Rattle.std.specs.Prelude.{◌⊎◌}
-use Rattle.slotted_theory.proofs.Lists.{Contains-nil}
+use Rattle.slotted_lists.proofs.Contained.{Contains-nil}
 use Rattle.slotted_patterns.specs.Tree.{PatternTree}
 use Rattle.slotted_model_rules.specs.Conditions.{Values}
 use Rattle.slotted_operations.specs.Graph.{Graph, OnlyTakesSlots}

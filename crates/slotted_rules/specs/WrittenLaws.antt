@@ -1,11 +1,12 @@
 -- What is kept by graphs that extend one another: a written rule can be searched, and what it found can be applied.
-use Rattle.std.proofs.Common.{◌≡◌, List, refl, subst, inl, inr}
-use Rattle.std.specs.Prelude.{Contains, Option, Some, None, IsSome}
+use Rattle.std.proofs.Common.{◌≡◌, List, refl, subst, inl, inr, false, sym, ◌∙◌, ◌≢◌, ◌⊎◌}
+use Rattle.std.specs.Prelude.{Contains, Option, Some, None, IsSome, All, IsTrue}
 use Rattle.std.proofs.lemmas.Bool.{false≢true}
+use Rattle.std.proofs.lemmas.List.Elements.{All-weaker}
+use Rattle.slotted_lists.proofs.Contained.{Contains-nil}
 use Rattle.slotted_nodes.specs.Form.{Form}
 use Rattle.slotted_slots.specs.declared.error.Error.{Error}
 use Rattle.slotted_slots.specs.declared.error.Error.TheVariants.{Failed}
-use Rattle.slotted_theory.proofs.Lists.{Contains-nil}
 use Rattle.slotted_patterns.specs.Tree.{PatternTree}
 use Rattle.slotted_patterns.specs.View.{tree_of}
 use Rattle.slotted_model_rules.specs.Conditions.{Values}
@@ -55,3 +56,8 @@ found-applies t g found h s =
 pub refused-other : (refuses : Values → Graph → Error → Type 0) → ((s : Values) (g : Graph) → ¬ refuses s g Failed) → (q : PatternTree) → ¬ IsRefusedRewrite refuses q Failed
 refused-other refuses never q (inl r) = r.0
 refused-other refuses never q (inr r) = never r.0 r.1 r.2
+
+-- rules stay searchable while the graph grows
+pub can-search : {L Q : Type 0} (form : L → Form) (g h : Graph) (rules : List (Rewrite L Q)) → g.failed ≡ false → ExtendsTo g h → IsTrue g.failed ⊎ All (CanBeSearched form g.table) rules → IsTrue h.failed ⊎ All (CanBeSearched form h.table) rules
+can-search form g h rules well grows (inl failed) = absurd (false≢true (sym well ∙ failed))
+can-search form g h rules well grows (inr each) = inr (All-weaker (CanBeSearched form g.table) (CanBeSearched form h.table) (λ r v. valid-later form g h r grows v) rules each)

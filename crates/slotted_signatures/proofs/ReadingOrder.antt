@@ -5,6 +5,7 @@ use Rattle.std.proofs.lemmas.List.{map-append, reverse-append, reverse-reverse}
 use Rattle.slotted_nodes.specs.Form.{Form}
 use Rattle.slotted_patterns.specs.Subpatterns.{parts, patterns_in, subpatterns, subpatterns_in}
 use Rattle.slotted_patterns.specs.Tree.{PatternTree, enode, pvar, substitution, PatternRow, no_more, one_more, row_of}
+use Rattle.slotted_patterns.proofs.Folds.{row_of-in}
 use Rattle.slotted_signatures.specs.Reading.{nodes_of, nodes_in, own_nodes}
 
 pub map-reverse : {A B : Type 0} (f : A → B) (xs : List A) → map f (reverse xs) ≡ reverse (map f xs)
@@ -24,10 +25,6 @@ mapped-now {A} {B} f lent xs e = composed lent ∙ ap (map f) e
 nodes-append : (a b : List PatternTree) → nodes_in (row_of (a ++ b)) ≡ nodes_in (row_of a) ++ nodes_in (row_of b)
 nodes-append [] b = refl
 nodes-append (p ∷ a) b = ap (λ l. nodes_of p ++ l) (nodes-append a b) ∙ sym (append_assoc (nodes_of p) (nodes_in (row_of a)) (nodes_in (row_of b)))
-
-row_of-in : (row : PatternRow) → row_of (patterns_in row) ≡ row
-row_of-in no_more = refl
-row_of-in (one_more p rest) = ap (one_more p) (row_of-in rest)
 
 -- the e-nodes of a pattern are its own and those of its parts
 opened : (p : PatternTree) → nodes_of p ≡ own_nodes p ++ nodes_in (row_of (parts p))

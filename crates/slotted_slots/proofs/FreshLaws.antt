@@ -3,6 +3,7 @@ use Rattle.std.proofs.Common.{◌≡◌, ℕ, zero, suc, ◌<◌, ◌≤◌, tru
 use Rattle.std.specs.Prelude.{◌⊎◌, is_some}
 use Rattle.std.proofs.lemmas.Bool.{cases_eq, cases_Bool, eq-eqb, ne_eqb, and_parts, and_from, true≢false, not-true, lt-ltb, le-ltb}
 use Rattle.std.proofs.lemmas.List.{take_more}
+use Rattle.slotted_lists.proofs.Maps.{keys-push}
 use Rattle.slotted_slots.specs.Ascending.{AllAbove, IsAscending}
 use Rattle.slotted_slots.specs.Combining.{sent_on, IsFreshFrom, IsFilled, IsNew, IsCompleted, both_values, lacked, TakesForLacked, LacksForLacked, TakesToComplete, LacksToComplete}
 use Rattle.slotted_slots.specs.Maps.{keys, values, value_of, is_among, all_differ, composed, with_first}
@@ -123,7 +124,7 @@ IsCompleted-filled old new m n r ks filled = record {
 }
 
 -- what is sent on is a value of the second map
-is_among-composed : (m n : List (ℕ × ℕ)) (v : ℕ) → is_among v (values (composed m n)) ≡ true → is_among v (values n) ≡ true
+pub is_among-composed : (m n : List (ℕ × ℕ)) (v : ℕ) → is_among v (values (composed m n)) ≡ true → is_among v (values n) ≡ true
 is_among-composed [] n v there = absurd (true≢false (sym there))
 is_among-composed (p ∷ m) n v there = by (value_of n p.1) refl there (is_among-composed m n v)
   where
@@ -185,11 +186,6 @@ all_differ-filled used low high (p ∷ m) n (s ∷ ss) within filled differ =
           | inr fresh ↦ omega (arith, is.is_fresh, is.below_high, fresh.is_fresh, fresh.from_low)
         ]))) (rest differ)
 
--- the values of the second of two maps are among those of both
-pub among_second : (xs ys : List ℕ) (v : ℕ) → is_among v ys ≡ true → is_among v (xs ++ ys) ≡ true
-among_second [] ys v there = there
-among_second (x ∷ xs) ys v there = is_among-more v x (xs ++ ys) (among_second xs ys v there)
-
 -- a list with a hole for each number
 abbrev pub holes : List ℕ → List (Option ℕ)
 holes xs = map (λ _. None) xs
@@ -225,11 +221,6 @@ fresh_among used low high (x ∷ xs) (t ∷ ss) filled s there =
       | inl here ↦ subst (IsFreshFrom low high used) here (IsFilled-wider used low filled.0 low high (omega arith) end None t filled.1)
       | inr rest ↦ IsFilled-wider used filled.0 high low high start (omega arith) None s (fresh_among used filled.0 high xs ss filled.2 s rest)
     ]
-
--- one more pair
-pub keys-push : (m : List (ℕ × ℕ)) (p : ℕ × ℕ) → keys (m ++ p ∷ []) ≡ keys m ++ p.0 ∷ []
-keys-push [] p = refl
-keys-push (q ∷ m) p = ap (λ ks. q.0 ∷ ks) (keys-push m p)
 
 pub values-push : (m : List (ℕ × ℕ)) (p : ℕ × ℕ) → values (m ++ p ∷ []) ≡ values m ++ p.1 ∷ []
 values-push [] p = refl

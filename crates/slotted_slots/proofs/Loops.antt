@@ -1,9 +1,10 @@
 -- What holds where a loop has gone through a whole list.
 use Rattle.std.proofs.Common.{◌≡◌, ℕ, ◌+◌, ◌<◌, ◌≤◌, Bool, true, false, List, [], ◌∷◌, ◌++◌, length, drop, get_or, append_assoc, add-one, sym, ap, ◌∙◌}
-use Rattle.std.specs.Prelude.{cond, ◌&&◌}
+use Rattle.std.specs.Prelude.{◌&&◌}
 use Rattle.std.specs.List.{filter, list_all}
 use Rattle.std.proofs.Math.Seq.{drop-cons}
 use Rattle.std.proofs.lemmas.List.{append-nil, drop_all}
+use Rattle.slotted_lists.proofs.Lists.{filter-no as fails}
 
 -- what was gathered is what the whole list gives, since nothing is left
 pub gathered_all : {X Y : Type 0} (f : List Y → List X) → f [] ≡ [] → (acc : List X) (xs : List Y) (i : ℕ) → length xs ≤ i → acc ++ f (drop i xs) ≡ f xs → acc ≡ f xs
@@ -23,13 +24,6 @@ pub gathered_one : {X Y : Type 0} (f : List Y → List X) (acc next : List X) (x
 gathered_one f acc next x xs i y gives le is put =
     ap (λ l. l ++ f (drop (i + 1) xs)) put
     ∙ (append_assoc acc (x ∷ []) (f (drop (i + 1) xs)) ∙ ap (λ l. acc ++ l) (sym (ap f (next_element xs i y le is) ∙ gives)))
-
--- one more element passes a test, or fails it
-pub passes : {X : Type 0} (p : X → Bool) (x : X) (xs : List X) → p x ≡ true → filter p (x ∷ xs) ≡ x ∷ filter p xs
-passes p x xs holds = ap (λ (b : Bool). cond b (x ∷ filter p xs) (filter p xs)) holds
-
-pub fails : {X : Type 0} (p : X → Bool) (x : X) (xs : List X) → p x ≡ false → filter p (x ∷ xs) ≡ filter p xs
-fails p x xs lacks = ap (λ (b : Bool). cond b (x ∷ filter p xs) (filter p xs)) lacks
 
 -- one more element was passed over
 pub passed_over : {X Y : Type 0} (f : List Y → List X) (acc next : List X) (xs : List Y) (i : ℕ) (y : Y) → f (y ∷ drop (i + 1) xs) ≡ f (drop (i + 1) xs) → i < length xs → y ≡ get_or xs i y → next ≡ acc → next ++ f (drop (i + 1) xs) ≡ acc ++ f (drop i xs)

@@ -71,7 +71,7 @@ pub gives_from_if : (b : Bool) (s : ℕ) (u : Table) (other : NamedOutcome) (s' 
 gives_from_if true s u other s' u' never e = (refl, cc, cc)
 gives_from_if false s u other s' u' never e = absurd (never s' u' e)
 
-large_never : (a : ℕ) (v : Table) → too_large ≡ gives a v → ⊥
+pub large_never : (a : ℕ) (v : Table) → too_large ≡ gives a v → ⊥
 large_never a v e = cc
 
 pub full_never : (a : ℕ) (v : Table) → no_place ≡ gives a v → ⊥

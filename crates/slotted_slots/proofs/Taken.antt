@@ -1,12 +1,12 @@
 -- Which slots a table knows in addition.
 use Rattle.std.proofs.Common.{◌≡◌, ℕ, ◌+◌, List, [], ◌∷◌, ◌++◌, sym, ◌∙◌, ap, refl, subst, inl, inr, arith}
-use Rattle.std.specs.Prelude.{Bool, true, false, ◌⊎◌, ◌||◌}
+use Rattle.std.specs.Prelude.{Bool, true, false, ◌⊎◌}
 use Rattle.std.proofs.lemmas.Bool.{false≢true}
 use Rattle.std.proofs.lemmas.Bool.Decides.{nat_tests}
-use Rattle.std.proofs.lemmas.List.Folds.{list_any-append}
+use Rattle.slotted_lists.proofs.Maps.{is_among-left, is_among-right, keys-push}
 use Rattle.slotted_slots.specs.Maps.{IsInEither, is_among, values, keys}
 use Rattle.slotted_slots.specs.Table.{Table, Takes, fresh_slot, is_known}
-use Rattle.slotted_slots.proofs.FreshLaws.{among_second, keys-push, values-push}
+use Rattle.slotted_slots.proofs.FreshLaws.{values-push}
 use Rattle.slotted_slots.proofs.MapLaws.{is_among-first}
 
 -- one more fresh slot
@@ -51,19 +51,16 @@ pub takes_used : (t u v : Table) (used : List ℕ) (s : ℕ) → s ≡ fresh_slo
 takes_used t u v used s e moved h there =
     takes_fresh t u v (λ z. is_among z used ≡ true) s e (ap (λ (x : Table). x.fresh) moved) (ap (λ (x : Table). x.names) moved) h there
 
-pub among_first : (xs ys : List ℕ) (v : ℕ) → is_among v xs ≡ true → is_among v (xs ++ ys) ≡ true
-among_first xs ys v there = list_any-append _ xs ys ∙ ap (λ b. b || is_among v ys) there
-
 -- a list grows by what is taken
 pub takes_more : (t u v : Table) (used xs : List ℕ) (s : ℕ) → Takes t u (IsInEither xs used) → Takes u v (IsInEither (s ∷ []) used) → Takes t v (IsInEither (xs ++ s ∷ []) used)
 takes_more t u v used xs s h k =
     takes_then t u v (IsInEither xs used) (IsInEither (s ∷ []) used) (IsInEither (xs ++ s ∷ []) used) h k
     (λ z p. elim p [
-      | inl q ↦ inl (among_first xs (s ∷ []) z q)
+      | inl q ↦ inl (is_among-left xs (s ∷ []) z q)
       | inr q ↦ inr q
     ])
     (λ z p. elim p [
-      | inl q ↦ inl (among_second xs (s ∷ []) z q)
+      | inl q ↦ inl (is_among-right xs (s ∷ []) z q)
       | inr q ↦ inr q
     ])
 

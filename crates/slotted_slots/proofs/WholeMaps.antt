@@ -2,6 +2,7 @@
 use Rattle.std.proofs.Common.{◌≡◌, ℕ, ◌<◌, true, not, List, [], ◌∷◌, Option, Some, None, fold, refl, sym, ap, subst, inl, inr, arith, ◌∙◌}
 use Rattle.std.specs.Option.{option_and_then}
 use Rattle.std.proofs.lemmas.Bool.{cases_eq, cases_Bool, cases_order, eq-eqb, ne_eqb, and_from, true≢false}
+use Rattle.slotted_lists.proofs.Options.{same_options}
 use Rattle.slotted_slots.specs.Ascending.{AllAbove, IsAscending}
 use Rattle.slotted_slots.specs.Laws.{MapLaws}
 use Rattle.slotted_slots.specs.Maps.{keys, values, value_of, with_pair, with_first, composed, map_of, turned, is_among, all_differ}
@@ -41,14 +42,8 @@ same_maps (p ∷ m) (q ∷ n) up up' same = elim (cases_order p.0 q.0) [
       | inr other ↦ sym (value_of-later p m k other) ∙ (same k ∙ value_of-later q n k (λ e. other (key ∙ e)))
     ]
 
--- options that are `Some` of the same values are one
-same_options : (a b : Option ℕ) → ((v : ℕ) → a ≡ Some v → b ≡ Some v) → ((v : ℕ) → b ≡ Some v → a ≡ Some v) → a ≡ b
-same_options (Some v) b there back = sym (there v refl)
-same_options None (Some w) there back = back w refl
-same_options None None there back = refl
-
 -- a value has a key
-key_of_value : (n : List (ℕ × ℕ)) → IsAscending (keys n) → (v : ℕ) → is_among v (values n) ≡ true → (k : ℕ) × (value_of n k ≡ Some v)
+pub key_of_value : (n : List (ℕ × ℕ)) → IsAscending (keys n) → (v : ℕ) → is_among v (values n) ≡ true → (k : ℕ) × (value_of n k ≡ Some v)
 key_of_value [] up v there = absurd (true≢false (sym there))
 key_of_value (p ∷ n) up v there = elim (is_among-cons v p.1 (values n) there) [
   | inl here ↦ (p.0, value_of-first p n ∙ ap Some here)

@@ -1,7 +1,7 @@
 -- Slot maps as lists of pairs in key order.
 use Rattle.std.specs.Prelude.{All, IsSome, ℕ, suc, zero, Bool, true, not, ◌&&◌, ◌↔◌, ◌⊎◌, fold, ◌<◌, ◌≤◌, ◌≡◌, List, [], ◌∷◌, length, Option, Some, None, ◌==◌, map, refl, slice_set, slice_index_or, if◌then◌else◌, nat_lt, IsTrue}
-use Rattle.std.specs.List.{list_any}
 use Rattle.std.proofs.Common.{ap}
+pub use Rattle.slotted_lists.specs.Maps.{is_among, keys, values}
 
 -- the value at a key
 abbrev pub value_of : List (ℕ × ℕ) → ℕ → Option ℕ
@@ -44,10 +44,6 @@ abbrev pub composed : List (ℕ × ℕ) → List (ℕ × ℕ) → List (ℕ × �
 composed [] n = []
 composed (p ∷ m) n = with_first p.0 (value_of n p.1) (composed m n)
 
--- v is one of the numbers
-abbrev pub is_among : ℕ → List ℕ → Bool
-is_among v xs = list_any (λ x. x == v) xs
-
 -- z is one of the numbers of one list or of the other
 abbrev pub IsInEither : List ℕ → List ℕ → ℕ → Type 0
 IsInEither xs ys z = (is_among z xs ≡ true) ⊎ (is_among z ys ≡ true)
@@ -64,14 +60,6 @@ KnowsAll m xs = All (λ x. IsSome (value_of m x)) xs
 -- n sends back what m sends: it has v at k exactly where m has k at v
 abbrev pub IsInverse : List (ℕ × ℕ) → List (ℕ × ℕ) → Type 0
 IsInverse m n = (k v : ℕ) → (value_of n v ≡ Some k) ↔ (value_of m k ≡ Some v)
-
--- the keys, in their order
-abbrev pub keys : List (ℕ × ℕ) → List ℕ
-keys m = map (λ p. p.0) m
-
--- the values, in key order
-abbrev pub values : List (ℕ × ℕ) → List ℕ
-values m = map (λ p. p.1) m
 
 -- no value stands twice
 abbrev pub HasDifferentValues : List (ℕ × ℕ) → Type 0

@@ -2,7 +2,7 @@
 use Rattle.std.specs.Prelude.{◌≡◌, ℕ, suc, zero, ◌+◌, ◌-◌, ◌<◌, ◌≤◌, List, [], ◌∷◌, ◌++◌, length, map, Option, Some, None, option_map, Bool, true, false, cond, nat_lt, refl, slice_index_or}
 use Rattle.std.proofs.Common.{ap, ◌∙◌, sym, arith, length-append}
 use Rattle.std.proofs.lemmas.List.{append-nil, length-map, get_or-append-add, get_or_append_left}
-use Rattle.slotted_theory.proofs.Lists.{append_parts}
+use Rattle.slotted_lists.proofs.Contained.{append_parts}
 use Rattle.slotted_slots.specs.Maps.{keys, values}
 use Rattle.slotted_slots.specs.Syntax.{Element, text, applied, name}
 use Rattle.slotted_nodes.specs.Form.{Tree, leaf, own, child, bind, scopes, children, child_place, with_child_in}

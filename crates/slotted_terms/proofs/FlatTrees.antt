@@ -7,6 +7,7 @@ use Rattle.slotted_theory.specs.Term.{Term}
 use Rattle.slotted_nodes.specs.Form.{Form}
 use Rattle.slotted_languages.specs.Filled.{term_of}
 use Rattle.slotted_patterns.specs.Tree.{PatternTree, enode, pvar, substitution, PatternRow, no_more, one_more, row_of}
+use Rattle.slotted_patterns.proofs.PatternCopies.{mapped_one}
 use Rattle.slotted_terms.specs.Flat.{row_length, flat, flat_row, flat_of, closed, closed_terms}
 use Rattle.slotted_terms.specs.declared.flat.FlatNode.{FlatNode}
 use Rattle.slotted_terms.specs.TermPattern.{term_in, terms_in, IsGround, AreGround, IsPatternOf, ArePatternsOf}
@@ -149,11 +150,6 @@ same : {A : Type 0} (xs : List A) → map (λ x. x) xs ≡ xs
 same [] = refl
 same (x ∷ xs) = ap (λ ys. x ∷ ys) (same xs)
 
--- a list whose image is one element has that element last
-pub only_one : {A B : Type 0} (f : A → B) (all rest : List A) (o : Option A) (q : A) (p : B) → all ≡ rest ++ option_to_list o → o ≡ Some q → map f all ≡ p ∷ [] → f q ≡ p
-only_one f all rest o q p last is one =
-    one_image f q p rest (ap (map f) (sym (last ∙ ap (λ r. rest ++ option_to_list r) is)) ∙ one)
-
 -- the last node of a list
 pub flat_last : {L : Type 0} (form : L → Form) (all rest : List (FlatNode L)) (o : Option (FlatNode L)) (x : FlatNode L) → all ≡ rest ++ option_to_list o → o ≡ Some x → flat_of form all ≡ flat_of form rest ++ (form x.node, x.count) ∷ []
 flat_last form all rest o x last is =
@@ -169,4 +165,4 @@ closed_terms_in f n ps =
 
 pub only_last : {A : Type 0} (all rest : List A) (o : Option A) (q d : A) → all ≡ rest ++ option_to_list o → o ≡ Some q → all ≡ d ∷ [] → q ≡ d
 only_last all rest o q d last is one =
-    only_one (λ x. x) all rest o q d last is (same all ∙ one)
+    mapped_one (λ x. x) all rest o q d last is (same all ∙ one)

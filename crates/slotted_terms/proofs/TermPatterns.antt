@@ -13,17 +13,17 @@ use Rattle.slotted_terms.specs.Valid.{IsWhole}
 use Rattle.slotted_terms.proofs.AsTerms.{counted}
 
 -- no child is missing in any of the terms, and none is too many
-abbrev AreWhole : List Term → Type 0
+abbrev pub AreWhole : List Term → Type 0
 AreWhole [] = Unit {0}
 AreWhole (t ∷ ts) = IsWhole t.args × AreWhole ts
 
-AreWhole-join : (n : ℕ) (us : List Term) → AreWhole (take n us) → AreWhole (drop n us) → AreWhole us
+pub AreWhole-join : (n : ℕ) (us : List Term) → AreWhole (take n us) → AreWhole (drop n us) → AreWhole us
 AreWhole-join zero us h k = k
 AreWhole-join (suc n) [] h k = tt
 AreWhole-join (suc n) (u ∷ us) h k = (h.0, AreWhole-join n us h.1 k)
 
 -- a tree that is whole has as many terms as children, each of which is whole
-filled_whole : (tree : Tree) (xs : List ℕ) (us : List Term) → IsWhole (filled tree xs us) → (length us ≡ length (children tree)) × AreWhole us
+pub filled_whole : (tree : Tree) (xs : List ℕ) (us : List Term) → IsWhole (filled tree xs us) → (length us ≡ length (children tree)) × AreWhole us
 filled_whole leaf xs [] w = (refl, tt)
 filled_whole leaf xs (u ∷ us) w = absurd (omega (arith, w.0))
 filled_whole (own r) xs us w = filled_whole r (drop 1 xs) us w
@@ -68,3 +68,7 @@ patterns_more ps p ts t h k = record {
   ground = ground_more ps p h.ground k.ground;
   value = terms_more ps p ∙ (ap (λ us. us ++ term_in p ∷ []) h.value ∙ ap (λ u. ts ++ u ∷ []) k.value);
 }
+
+-- a whole term that is filled has as many children as it has places for them
+pub whole_count : (t : Tree) (xs : List ℕ) (us : List Term) → IsWhole (filled t xs us) → length us ≡ length (children t)
+whole_count t xs us w = (filled_whole t xs us w).0

@@ -1,13 +1,13 @@
 -- What is equal without bound names is derivable.
 use Rattle.std.proofs.Common.{◌≡◌, ◌≢◌, ℕ, zero, suc, ◌<◌, ◌≤◌, List, sym, ◌∙◌, ap, refl, arith}
 use Rattle.std.specs.Prelude.{Contains, map, max, ◌+◌}
+use Rattle.slotted_lists.proofs.Contained.{Contains-of_map}
 use Rattle.slotted_theory.specs.Term.{Args, Term, done, name, child, bind}
 use Rattle.slotted_theory.specs.Nameless.{DArgs, DTerm, stop, place, sub, scope, extend, nameless_args, nameless, moved, moved_args}
 use Rattle.slotted_theory.specs.Renaming.{Bijection, IsInjective, renamed, renamed_args}
 use Rattle.slotted_theory.specs.Derives.{Derives, asserted, alpha, symmetric, transitive, congruent, renaming, DerivesArgs, both_done, same_name, both_child, same_bind, Equal, listed, reflexive, turned, joined, within, moving, EqualArgs, equal_done, equal_name, equal_child, equal_bind, nameless_pair}
 use Rattle.slotted_theory.proofs.Names.{extend-same, extend-other}
 use Rattle.slotted_theory.proofs.Laws.{moved-nameless_args, nameless_args-renamed, nameless-renamed, moved_args-id}
-use Rattle.slotted_theory.proofs.Lists.{Contains-of_map}
 use Rattle.slotted_theory.proofs.Bijections.{to-injective, bind_name, down_to, down_to-zero, down_to-suc}
 use Rattle.slotted_theory.proofs.FreeNames.{bound, moved_args-agrees_below}
 use Rattle.slotted_theory.proofs.ByBijection.{MovesAs, moves_as}

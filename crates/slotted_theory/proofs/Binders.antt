@@ -4,6 +4,7 @@ use Rattle.std.specs.Prelude.{Contains, ◌⊎◌, map}
 use Rattle.std.proofs.lemmas.Bool.{cases_eq}
 use Rattle.std.proofs.lemmas.List.Elements.{Contains-append_left}
 use Rattle.std.specs.Prelude.{[]}
+use Rattle.slotted_lists.proofs.Contained.{Contains-map}
 use Rattle.slotted_theory.specs.Term.{Args, Term, done, bind}
 use Rattle.slotted_theory.specs.Nameless.{DTerm, extend, scope, nameless_args, moved, Alpha, under, entered, opened}
 use Rattle.slotted_theory.specs.Renaming.{IsInjective, swapped, renamed_args}
@@ -11,7 +12,6 @@ use Rattle.slotted_theory.specs.Derives.{Equal, moving}
 use Rattle.slotted_theory.specs.Shape.{outside, free_names, IsFreeIn}
 use Rattle.slotted_theory.proofs.Names.{extend-same, extend-other, extend-injective}
 use Rattle.slotted_theory.proofs.Laws.{moved-nameless_args, nameless_args-renamed, moved-moved, moved-id}
-use Rattle.slotted_theory.proofs.Lists.{Contains-map}
 use Rattle.slotted_theory.proofs.FreeNames.{Contains-outside, moved_args-agrees, moved-agrees, free_names-moved}
 use Rattle.slotted_theory.proofs.Bijections.{to-injective, swap, opposite, swapped-first, swapped-other}
 use Rattle.slotted_theory.proofs.ByBijection.{MovesAs, moves_as, moved-back}

@@ -1,8 +1,9 @@
 -- The number of a name can be read off the places before it.
-use Rattle.std.proofs.Common.{◌≡◌, ℕ, zero, suc, ◌<◌, ◌≤◌, List, [], ◌∷◌, ◌++◌, length, get_or, sym, ◌∙◌, ap, refl, arith, inl, inr, append_assoc, length-append}
-use Rattle.std.specs.Prelude.{nat_lt, cond, ◌+◌, ◌-◌}
-use Rattle.std.proofs.lemmas.Bool.{lt-ltb, le-ltb, cases_lt}
+use Rattle.std.proofs.Common.{◌≡◌, ℕ, zero, suc, ◌<◌, List, [], ◌∷◌, ◌++◌, length, get_or, sym, ◌∙◌, ap, refl, arith, inl, inr, append_assoc, length-append}
+use Rattle.std.specs.Prelude.{◌+◌, ◌-◌}
+use Rattle.std.proofs.lemmas.Bool.{cases_lt}
 use Rattle.std.proofs.lemmas.List.{append-nil, get_or_append_left, get_or-append-add}
+use Rattle.slotted_lists.proofs.Booleans.{cond-less, cond-not_less}
 use Rattle.slotted_theory.specs.Term.{Args, done, name, child, bind}
 use Rattle.slotted_theory.specs.Shape.{number_in}
 use Rattle.slotted_theory.specs.Flat.{places, open_at, number_of, numbers}
@@ -16,19 +17,12 @@ length-numbers bs (child op payloads args rest) =
 length-numbers bs (bind x inner rest) =
     omega (arith, length-append (numbers (x ∷ bs) inner) (numbers bs rest), length-append (places inner) (places rest), length-numbers (x ∷ bs) inner, length-numbers bs rest)
 
--- a binder whose scope a place has, or has not
-scope_in : (x : ℕ) (bs : List ℕ) (i s : ℕ) → i < s → cond (nat_lt i s) (x ∷ bs) bs ≡ x ∷ bs
-scope_in x bs i s h = ap (λ b. cond b (x ∷ bs) bs) (lt-ltb i s h)
-
-scope_out : (x : ℕ) (bs : List ℕ) (i s : ℕ) → s ≤ i → cond (nat_lt i s) (x ∷ bs) bs ≡ bs
-scope_out x bs i s h = ap (λ b. cond b (x ∷ bs) bs) (le-ltb i s h)
-
 -- past a whole list of arguments its binders are closed
 pub open_at-past : (a : Args) (qs : List (ℕ × ℕ)) (bs : List ℕ) (i j : ℕ) → j ≡ length (places a) + i → open_at (places a ++ qs) j bs ≡ open_at qs i bs
 open_at-past done qs bs i j e = let f : j ≡ i = omega arith in ap (λ k. open_at qs k bs) f
 open_at-past (name x rest) qs bs i zero e = absurd (omega arith)
 open_at-past (name x rest) qs bs i (suc j) e =
-    ap (open_at (places rest ++ qs) j) (scope_out x bs (suc j) 0 (omega arith)) ∙ open_at-past rest qs bs i j (omega arith)
+    ap (open_at (places rest ++ qs) j) (cond-not_less x bs (suc j) 0 (omega arith)) ∙ open_at-past rest qs bs i j (omega arith)
 open_at-past (child op payloads args rest) qs bs i j e =
     let l = length-append (places args) (places rest) in
     rw (append_assoc (places args) (places rest) qs)
@@ -36,7 +30,7 @@ open_at-past (child op payloads args rest) qs bs i j e =
 open_at-past (bind x inner rest) qs bs i zero e = absurd (omega arith)
 open_at-past (bind x inner rest) qs bs i (suc j) e =
     let l = length-append (places inner) (places rest) in
-    ap (open_at ((places inner ++ places rest) ++ qs) j) (scope_out x bs (suc j) (suc (length (places inner))) (omega arith))
+    ap (open_at ((places inner ++ places rest) ++ qs) j) (cond-not_less x bs (suc j) (suc (length (places inner))) (omega arith))
     ∙ (rw (append_assoc (places inner) (places rest) qs)
     (open_at-past inner (places rest ++ qs) bs (length (places rest) + i) j (omega arith) ∙ open_at-past rest qs bs i (length (places rest) + i) refl))
 
@@ -58,7 +52,7 @@ pub number_at : (a : Args) (qs : List (ℕ × ℕ)) (bs : List ℕ) (i : ℕ) �
 number_at done qs bs i h = absurd (omega arith)
 number_at (name x rest) qs bs zero h = refl
 number_at (name x rest) qs bs (suc i) h =
-    ap (λ os. number_of (places rest ++ qs) os i) (scope_out x bs (suc i) 0 (omega arith)) ∙ number_at rest qs bs i (omega arith)
+    ap (λ os. number_of (places rest ++ qs) os i) (cond-not_less x bs (suc i) 0 (omega arith)) ∙ number_at rest qs bs i (omega arith)
 number_at (child op payloads args rest) qs bs i h =
     let l = length-append (places args) (places rest) in
     rw (append_assoc (places args) (places rest) qs)
@@ -71,9 +65,9 @@ number_at (bind x inner rest) qs bs (suc i) h =
     let l = length-append (places inner) (places rest) in
     rw (append_assoc (places inner) (places rest) qs)
     (elim (cases_lt i (length (places inner))) [
-      | inl f ↦ ap (λ os. number_of (places inner ++ (places rest ++ qs)) os i) (scope_in x bs (suc i) (suc (length (places inner))) (omega arith))
+      | inl f ↦ ap (λ os. number_of (places inner ++ (places rest ++ qs)) os i) (cond-less x bs (suc i) (suc (length (places inner))) (omega arith))
           ∙ (number_at inner (places rest ++ qs) (x ∷ bs) i f ∙ sym (get_or_append_left (numbers (x ∷ bs) inner) (numbers bs rest) 0 i (omega (arith, length-numbers (x ∷ bs) inner))))
-      | inr f ↦ ap (λ os. number_of (places inner ++ (places rest ++ qs)) os i) (scope_out x bs (suc i) (suc (length (places inner))) (omega arith))
+      | inr f ↦ ap (λ os. number_of (places inner ++ (places rest ++ qs)) os i) (cond-not_less x bs (suc i) (suc (length (places inner))) (omega arith))
           ∙ number_of-second inner rest qs (x ∷ bs) bs i (i - length (places inner)) (omega arith) (number_at rest qs bs (i - length (places inner)) (omega arith))
     ])
 

@@ -1,13 +1,13 @@
 -- What is derivable is equal without bound names.
 use Rattle.std.proofs.Common.{ℕ, List, sym, ◌∙◌, ap, refl}
 use Rattle.std.specs.Prelude.{map}
+use Rattle.slotted_lists.proofs.Contained.{Contains-map}
 use Rattle.slotted_theory.specs.Term.{Args, Term}
 use Rattle.slotted_theory.specs.Nameless.{nameless_args, nameless_by, nameless, extend, moved}
 use Rattle.slotted_theory.specs.Renaming.{IsInjective}
 use Rattle.slotted_theory.specs.Derives.{Derives, asserted, alpha, symmetric, transitive, congruent, renaming, DerivesArgs, both_done, same_name, both_child, same_bind, Equal, listed, reflexive, turned, joined, within, moving, EqualArgs, equal_done, equal_name, equal_child, equal_bind, nameless_pair}
 use Rattle.slotted_theory.proofs.Names.{extend-injective}
 use Rattle.slotted_theory.proofs.Laws.{moved-nameless, nameless_by-renamed}
-use Rattle.slotted_theory.proofs.Lists.{Contains-map}
 use Rattle.slotted_theory.proofs.Equals.{Equal-along}
 use Rattle.slotted_theory.proofs.Bijections.{to-injective}
 

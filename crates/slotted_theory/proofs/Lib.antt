@@ -1,6 +1,5 @@
 pub mod Names
 pub mod Laws
-pub mod Lists
 pub mod Bijections
 pub mod FreeNames
 pub mod Equals

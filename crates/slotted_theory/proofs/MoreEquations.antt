@@ -1,12 +1,12 @@
 -- Equations that are derivable themselves derive nothing new, and what is not free on one side may be renamed on the other.
 use Rattle.std.proofs.Common.{◌≡◌, ℕ, List, sym, refl}
 use Rattle.std.specs.Prelude.{Contains, map}
+use Rattle.slotted_lists.proofs.Contained.{Contains-of_map}
 use Rattle.slotted_theory.specs.Term.{Term}
 use Rattle.slotted_theory.specs.Nameless.{DTerm}
 use Rattle.slotted_theory.specs.Renaming.{Bijection, renamed}
 use Rattle.slotted_theory.specs.Shape.{IsFreeIn}
 use Rattle.slotted_theory.specs.Derives.{Derives, asserted, Equal, nameless_pair}
-use Rattle.slotted_theory.proofs.Lists.{Contains-of_map}
 use Rattle.slotted_theory.proofs.Laws.{nameless-renamed}
 use Rattle.slotted_theory.proofs.Bijections.{to-injective}
 use Rattle.slotted_theory.proofs.Equals.{Equal-along, Equal-through, Equal-one_sided}

@@ -2,11 +2,11 @@
 use Rattle.std.proofs.Common.{◌≡◌, ℕ, zero, suc, ◌<◌, ◌∙◌, ap, refl, arith}
 use Rattle.std.specs.Prelude.{◌≤◌, Contains, map, max}
 use Rattle.std.proofs.lemmas.List.Elements.{Contains-append_left, Contains-append_right}
+use Rattle.slotted_lists.proofs.Contained.{contains_head, contains_tail, Contains-map, above, Contains-below}
 use Rattle.slotted_theory.specs.Term.{Args, Term, done, name, child, bind}
 use Rattle.slotted_theory.specs.Nameless.{DArgs, DTerm, stop, place, sub, scope, extend, nameless_args, nameless}
 use Rattle.slotted_theory.specs.Shape.{outside, free_names}
 use Rattle.slotted_theory.proofs.FreeNames.{Contains-outside}
-use Rattle.slotted_theory.proofs.Lists.{contains_head, contains_tail, Contains-map, above, Contains-below}
 use Rattle.slotted_theory.proofs.Names.{extend-same, extend-other}
 
 -- the names of numbers under one more binder, of the name z

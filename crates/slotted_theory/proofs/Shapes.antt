@@ -2,13 +2,13 @@
 use Rattle.std.proofs.Common.{◌≡◌, ◌↔◌, ℕ, suc, List, [], ◌∷◌, sym, ◌∙◌, ap, inl, inr}
 use Rattle.std.specs.Prelude.{map, Contains}
 use Rattle.std.proofs.lemmas.Bool.{cases_eq}
+use Rattle.slotted_lists.proofs.Contained.{contains_cases, Contains-nil}
 use Rattle.slotted_theory.specs.Nameless.{DTerm, moved}
 use Rattle.slotted_theory.specs.Renaming.{IsInjective}
 use Rattle.slotted_theory.specs.Shape.{free_names, number_in, shape, SameUpToNames}
 use Rattle.slotted_theory.proofs.Names.{extend-same, extend-other, extend-injective}
 use Rattle.slotted_theory.proofs.Laws.{moved-moved}
 use Rattle.slotted_theory.proofs.FreeNames.{free_names-moved, moved-agrees}
-use Rattle.slotted_theory.proofs.Lists.{contains_cases, Contains-nil}
 use Rattle.slotted_theory.proofs.Bijections.{to-injective, then, opposite}
 use Rattle.slotted_theory.proofs.ByBijection.{MovesAs, moves_as, moved-back}
 

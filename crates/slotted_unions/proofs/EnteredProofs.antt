@@ -39,7 +39,7 @@ entry-right k ps p e same written = ap (λ (a : Applied). a.0) written.right
     ∙ ap (λ qs. (statement_at qs p).equation.right) same
 
 -- how a list grew by an entry
-entered-more : (old new : List Proven) (x : Proven) (p : ℕ) → Enters old new x p →
+pub entered-more : (old new : List Proven) (x : Proven) (p : ℕ) → Enters old new x p →
     (more : List Proven) × (new ≡ old ++ more)
 entered-more old new x p enters = elim enters.grows [
   | inl e ↦ ([], e.1 ∙ sym (append-nil old))

@@ -4,6 +4,7 @@ use Rattle.std.proofs.Common.{◌≡◌, ◌≢◌, ◌⊎◌, ℕ, ◌<◌, Lis
 use Rattle.std.specs.Prelude.{Contains}
 use Rattle.std.specs.Map.{keys_of}
 use Rattle.std.proofs.lemmas.Bool.{cases_eq}
+use Rattle.slotted_lists.proofs.Contained.{contains_cases-end}
 use Rattle.slotted_theory.specs.Nameless.{DTerm}
 use Rattle.slotted_model.specs.Applied.{Applied}
 use Rattle.slotted_model.specs.Classes.{canonical_slots}
@@ -30,7 +31,6 @@ use Rattle.slotted_model.proofs.Rebuilding.Unions.{can_drop-left, can_drop-right
 use Rattle.slotted_model.proofs.Rebuilding.UpTo.{left-valid, right-valid}
 use Rattle.slotted_unions.specs.Proving.{FindsEither}
 use Rattle.slotted_unions.proofs.LargeClasses.{found-twice}
-use Rattle.slotted_unions.proofs.NewSymmetries.{one-more}
 use Rattle.slotted_unions.proofs.TurnedEntries.{key-turned, turned-value}
 
 -- a class that drops slots changes no class that is found
@@ -233,7 +233,7 @@ unites-keeps p (lists {g = g} n same all moves new at) sane k =
     let over = sane.sound.proved.over p k in
     let links : Linked g.nodes g.found = sane.sound.linked in (
       λ i j hi hj q. inl q,
-      λ y c. elim (one-more g.symmetries (symmetry_of g says n) y c) [
+      λ y c. elim (contains_cases-end g.symmetries (symmetry_of g says n) y c) [
         | inl old ↦ ((sane.each_listed y old).in_range, inl (old, λ aligned. aligned))
         | inr is ↦ (
           subst (λ (z : Symmetry). z.class < length g.nodes) (sym is) (found-in_range g.nodes g.found (leads g.nodes g.found links) e.left over.left),

@@ -2,6 +2,7 @@
 use Rattle.std.proofs.Common.{◌≡◌, ◌<◌, ◌≤◌, ◌+◌, ◌^◌, ℕ, List, length, sym, ◌∙◌, ap, refl, subst, inl, inr, arith}
 use Rattle.std.specs.Prelude.{Result, Ok, Err, IfErr, IsErrOf}
 use Rattle.std.proofs.lemmas.Bool.{cases_lt}
+use Rattle.slotted_lists.proofs.Maps.{length-keys}
 use Rattle.slotted_slots.specs.declared.error.Error.{Error}
 use Rattle.slotted_slots.specs.declared.error.Error.TheVariants.{BadStep}
 use Rattle.slotted_slots.specs.declared.types.AppliedId.{AppliedId}
@@ -14,7 +15,7 @@ use Rattle.slotted_model.specs.Classes.{canonical_slots, IsFull}
 use Rattle.slotted_model.specs.Correspondence.{AllDifferent, CanJoin, IsFullMap, IsPartialInjection, IsNumberedForm, numbered, same_names}
 use Rattle.slotted_model.specs.Find.{Entry, find_class}
 use Rattle.slotted_model.specs.ProofList.{Equation, IsOver, transitive, equation_of, find_equation, turned_equation}
-use Rattle.slotted_model.proofs.Correspondences.FullIds.{full_map, slots-different}
+use Rattle.slotted_model.proofs.Correspondences.FullIds.{slots-different}
 use Rattle.slotted_model.proofs.Correspondences.FullMaps.{with_values-full, same_names-with_values}
 use Rattle.slotted_model.proofs.Correspondences.Numbers.{numbered-form}
 use Rattle.slotted_model.proofs.Finds.FindProofs.{found_alike-join}
@@ -31,14 +32,9 @@ use Rattle.slotted_proofs.proofs.Written.{stated}
 use Rattle.slotted_classes.specs.Finding.{FindAlike}
 use Rattle.slotted_classes.specs.Kept.{Kept, nodes_of, entries_of, EntersBy}
 use Rattle.slotted_classes.proofs.KeptLists.{length-nodes_of}
-use Rattle.slotted_classes.proofs.NameMaps.{length-keys}
 use Rattle.slotted_unions.specs.Proving.{Proves, ProvesEqual, HasLargeClassOf}
 use Rattle.slotted_classes.specs.Stored.{Stored}
 use Rattle.slotted_unions.proofs.EnteredProofs.{entering-proves, only-nodes, then-proves}
-
--- a full id has a full map over its own keys
-pub own_map : (nodes : List DTerm) (a : Applied) → IsFull nodes a → IsFullMap (keys a.1) a.1
-own_map nodes a f = subst (λ K. IsFullMap K a.1) (sym f.slots) (full_map nodes a f)
 
 -- the statement of an entry has a written form
 pub written_sides : (nodes : List DTerm) (list : List Proven) → IsProved nodes list → (p : ℕ) → p < length list → (c : Applied) × (d : Applied) × AreSides (statement_at list p) c d

@@ -1,32 +1,29 @@
 -- The sides of a listed symmetry as the code has them are those of the mathematics under one renaming: so both are aligned alike.
-use Rattle.std.proofs.Common.{◌≡◌, ◌↔◌, ℕ, List, [], ◌∷◌, refl, sym, ◌∙◌, ap, subst}
+use Rattle.std.proofs.Common.{◌≡◌, ◌↔◌, ℕ, List, sym, ◌∙◌, ap, subst}
 use Rattle.std.specs.Prelude.{Contains}
 use Rattle.std.specs.Map.{keys_of}
+use Rattle.slotted_lists.proofs.Members.{In-Contains, Contains-In}
+use Rattle.slotted_lists.proofs.Maps.{with_values-pair}
 use Rattle.slotted_theory.specs.FiniteMaps.{filled, with_values}
 use Rattle.slotted_theory.proofs.Filled.{filled-injective}
-use Rattle.slotted_model.specs.Applied.{Applied, keys, values, map_on, renamed_id}
-use Rattle.slotted_model.specs.Correspondence.{IsFullMap, IsPartialInjection, identity, turned}
+use Rattle.slotted_model.specs.Applied.{Applied, keys, values, renamed_id}
+use Rattle.slotted_model.specs.Correspondence.{IsFullMap, IsPartialInjection, turned}
 use Rattle.slotted_model.specs.Find.{Entry, find}
 use Rattle.slotted_model.specs.Rest.{IsAligned, IsListed}
 use Rattle.slotted_model.specs.State.{Symmetry, left_of, right_of}
 use Rattle.slotted_model.proofs.Correspondences.FullIds.{ascending-different}
-use Rattle.slotted_model.proofs.Correspondences.FullMaps.{full-ext, full-from, same_names-over, with_values-pair, with_values-by, with_values-full}
+use Rattle.slotted_model.proofs.Correspondences.FullMaps.{full-ext, full-from, same_names-over, with_values-by, with_values-full}
 use Rattle.slotted_model.proofs.Correspondences.Pairs.{Contains-key, Contains-value, Contains-of_key, Contains-of_value}
 use Rattle.slotted_model.proofs.Correspondences.PartialInjections.{turned-partial, turned-pair, turned-by, key_in_order}
 use Rattle.slotted_model.proofs.Rebuilding.Lacking.{same-ascending}
 use Rattle.slotted_model.proofs.Data.Maps.{map_on-filled, filled-pair}
-use Rattle.slotted_model.proofs.Data.Members.{In-Contains, Contains-In}
 use Rattle.slotted_model.proofs.Finds.NormalIds.{found-renamed, valid-map, Contains-ascending, Contains-of_ascending}
 use Rattle.slotted_model.proofs.Data.Ordered.{in_order-ascending}
 use Rattle.slotted_model.proofs.Data.Sets.{same_members}
+use Rattle.slotted_model.proofs.Rebuilding.FoundEntries.{identity-names}
 use Rattle.slotted_classes.specs.Kept.{Kept, SymmetryEntry, nodes_of, entries_of}
 use Rattle.slotted_classes.specs.StateOf.{state_of, symmetry_of_entry}
 use Rattle.slotted_classes.specs.Stored.{Stored, IsOverOneClass}
-
--- the identity with names put in
-identity-names : (f : ℕ → ℕ) (S : List ℕ) → with_values f (identity S) ≡ map_on f S
-identity-names f [] = refl
-identity-names f (s ∷ S) = ap (λ l. (s, f s) ∷ l) (identity-names f S)
 
 module _ (k : Kept) (good : Stored k) (e : SymmetryEntry) (sides : IsOverOneClass k e) (l : IsListed (state_of k) (symmetry_of_entry e)) where
   abbrev found : List Entry

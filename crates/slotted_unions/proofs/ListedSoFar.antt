@@ -2,7 +2,7 @@
 use Rattle.std.proofs.Common.{◌≡◌, ◌<◌, ◌+◌, ℕ, List, length, sym, ◌∙◌, ap, subst, inl, inr, arith}
 use Rattle.std.specs.Prelude.{Contains, map, slice_index_or}
 use Rattle.std.proofs.lemmas.Bool.{cases_eq}
-use Rattle.slotted_theory.proofs.Lists.{Contains-map, Contains-of_map}
+use Rattle.slotted_lists.proofs.Contained.{Contains-map, Contains-of_map}
 use Rattle.slotted_model.specs.State.{Symmetry}
 use Rattle.slotted_classes.specs.Kept.{SymmetryEntry}
 use Rattle.slotted_classes.proofs.KeptLists.{any_default}

@@ -4,8 +4,8 @@ use Rattle.std.proofs.Common.{◌≡◌, ℕ, suc, ◌<◌, ◌≤◌, ◌∙◌
 use Rattle.std.specs.Prelude.{◌⊎◌, Contains, Bool, true, false, Some, None}
 use Rattle.std.specs.Map.{keys_of, values_of}
 use Rattle.std.proofs.lemmas.Bool.{cases_eq, false≢true}
+use Rattle.slotted_lists.proofs.Contained.{Contains-nil, contains_cases, contains_head, contains_tail}
 use Rattle.slotted_model.specs.Classes.{canonical_slots}
-use Rattle.slotted_theory.proofs.Lists.{Contains-nil, contains_cases, contains_head, contains_tail}
 use Rattle.slotted_model.specs.Correspondence.{AllDifferent, turned, IsFullMap, IsPartialInjection}
 use Rattle.slotted_model.specs.Find.{Entry, entry_at, find_map, used_slots}
 use Rattle.slotted_model.specs.ProofList.{Equation, turned_equation}

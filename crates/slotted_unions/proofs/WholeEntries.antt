@@ -2,6 +2,7 @@
 use Rattle.std.proofs.Common.{◌≡◌, ◌<◌, ◌∙◌, ℕ, List, ap, length, subst, sym}
 use Rattle.std.specs.Map.{keys_of, values_of}
 use Rattle.std.specs.Prelude.{Contains}
+use Rattle.slotted_lists.proofs.Members.{Contains-In, In-Contains}
 use Rattle.slotted_theory.specs.Nameless.{DTerm}
 use Rattle.slotted_model.specs.Ascending.{IsAscending}
 use Rattle.slotted_model.specs.Classes.{canonical_slots}
@@ -12,7 +13,6 @@ use Rattle.slotted_model.proofs.Correspondences.FullMaps.{full-partial}
 use Rattle.slotted_model.proofs.Correspondences.Pairs.{Contains-of_value, Contains-value}
 use Rattle.slotted_model.proofs.Correspondences.PartialInjections.{identity-composite}
 use Rattle.slotted_model.proofs.Finds.Finding.{Leads, find_class-follows, find_class-live, find_map-follows, find_map-live, leads, live-full, slots-ascending}
-use Rattle.slotted_model.proofs.Data.Members.{Contains-In, In-Contains}
 use Rattle.slotted_model.proofs.Finds.NormalIds.{used-live, values-identity}
 use Rattle.slotted_model.proofs.Data.Ordered.{in_order-ascending}
 use Rattle.slotted_model.proofs.Data.Sets.{IsAscending-ascending}

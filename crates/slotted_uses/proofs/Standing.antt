@@ -1,10 +1,10 @@
 -- Which terms the handles of a question stand for, and what an answered question says of them.
 use Rattle.std.proofs.Common.{◌≡◌, ◌∙◌, ℕ, List, ap, subst, sym}
-use Rattle.std.specs.Prelude.{IfOk, OnOk, Option, Result, Ok, Err, Some}
+use Rattle.std.specs.Prelude.{Option, Some}
+use Rattle.slotted_lists.proofs.Options.{Some-same}
 use Rattle.slotted_slots.specs.Syntax.{Element}
 use Rattle.slotted_theory.specs.Term.{Term}
 use Rattle.slotted_nodes.specs.Form.{Form}
-use Rattle.slotted_model.proofs.Data.Options.{Some-same}
 use Rattle.slotted_decided.specs.declared.running.DecidedLimits.{DecidedLimits}
 use Rattle.slotted_decided.specs.declared.running.DecidedRun.{DecidedRun}
 use Rattle.slotted_workspace.specs.Asked.{AddsTerm, ChangesGraph, OfBoth}
@@ -15,11 +15,6 @@ use Rattle.slotted_workspace.specs.declared.handle.Handle.{Handle}
 use Rattle.slotted_workspace.proofs.Handles.{asserts-nothing, stands-changed, stands-later}
 use Rattle.slotted_uses.specs.Questions.{AddsBoth, AnswersQuestion, Judges}
 use Rattle.slotted_uses.specs.declared.question.Verdict.{Verdict}
-
--- of an answer P and K, of which Q follows
-pub ok-with : {T E : Type 0} (r : Result T E) (K : Type 0) (P Q : T → Type 0) → ((x : T) → K → P x → Q x) → OnOk r K → IfOk r P → IfOk r Q
-ok-with (Ok x) K P Q f k p = f x k p
-ok-with (Err e) K P Q f k p = p
 
 module _ (read : List Element → Option Form) (s between both : Space) (left right : List ℕ) (first second : Handle) (a : AddsTerm read s between left first) (b : AddsTerm read between both right second) where
   abbrev pub both-added : AddsBoth read s both left right first second

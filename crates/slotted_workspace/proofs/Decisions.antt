@@ -43,11 +43,6 @@ use Rattle.slotted_workspace.proofs.Staying.{kept-later}
 use Rattle.slotted_workspace.specs.declared.sparing.RuleCondition.{RuleCondition}
 use Rattle.slotted_workspace.specs.Sparing.{AnswersRule, RuleRefuses}
 
--- nothing is lost in a graph that goes on
-pub goes-extends : (g h : Graph) → IsTrue h.failed ⊎ GoesTo g h → IsTrue h.failed ⊎ ExtendsTo g h
-goes-extends g h (inl failed) = inl failed
-goes-extends g h (inr goes) = inr goes.extends
-
 pub goes-well : {A : Type 0} (g h : Graph) (r : Result A Error) (x : A) → r ≡ Ok x → IsTrue h.failed ⊎ GoesTo g h → (IsTrue h.failed ↔ IsErr r) → GoesTo g h
 goes-well g h r x is (inl failed) fails = absurd (false≢true (subst (λ (s : Result _ Error). IsErr s) is (fails.0 failed)))
 goes-well g h r x is (inr goes) fails = goes

@@ -1,8 +1,9 @@
 -- What an explanation of two kept terms says of them.
 use Rattle.std.proofs.Common.{◌≡◌, ◌⊎◌, ◌↔◌, ◌∙◌, ℕ, List, Result, Ok, Err, IfErr, IsErrOf, ap, refl, sym, subst, inl, inr}
-use Rattle.std.specs.Prelude.{◌+◌, Bool, true, false, IsErr, IsTrue, OnOk, String, is_some, string_bytes}
+use Rattle.std.specs.Prelude.{◌+◌, Bool, true, false, IsErr, IsTrue, String, is_some, string_bytes}
 use Rattle.std.specs.declared.alloc.Global.{Global}
 use Rattle.std.proofs.lemmas.Bool.{false≢true}
+use Rattle.slotted_lists.proofs.Options.{Some-same}
 use Rattle.slotted_slots.specs.declared.error.Error.{Error}
 use Rattle.slotted_slots.specs.declared.error.Error.TheVariants.{OutOfSlots, Failed, NotEqual}
 use Rattle.slotted_slots.specs.Error.{IsShortage}
@@ -10,7 +11,6 @@ use Rattle.slotted_slots.specs.Syntax.{Element}
 use Rattle.slotted_slots.specs.Table.{KnowsMore}
 use Rattle.slotted_theory.specs.Term.{Term}
 use Rattle.slotted_languages.proofs.HandedOn.{error_or}
-use Rattle.slotted_model.proofs.Data.Options.{Some-same}
 use Rattle.slotted_model.specs.ProofList.{equation_of}
 use Rattle.slotted_proofs.specs.Equations.{to_applied}
 use Rattle.slotted_operations.specs.Explaining.{AddsTerms, Explains, FilesOnlyTerms, FindsApart, KeepsKnown, RunsOutForTerms}
@@ -70,10 +70,6 @@ module _ (g k : Graph) (t u : Term) (more : KnowsMore g.table k.table) (takes : 
       by : (b : Bool) → g.failed ≡ b → ChainRefused g k t u e
       by true f = asked.ChainRefused.had_failed (f, stays f, ap (error_or Failed) (failed.1 f))
       by false well = ended well only
-
-pub on-ok : {T E P : Type 0} (r : Result T E) → P → OnOk r P
-on-ok (Ok x) p = p
-on-ok (Err e) p = tt
 
 -- printing it
 module _ {L : Type 0} (written : Term → List Element) (g k h : Graph) (a b : Kept L) (p : ℕ) (well : g.failed ≡ false) (sound : IsTrue k.failed → ⊥) (proves : Proves g a.term b.term p k) (one : IsKept g a) (two : IsKept g b) where

@@ -1,6 +1,7 @@
 -- Which terms handles stand for in a later workspace, and what is asserted once a term was added.
-use Rattle.std.proofs.Common.{◌≡◌, ◌∙◌, ◌++◌, ℕ, zero, suc, List, [], ◌∷◌, ap, subst, sym}
+use Rattle.std.proofs.Common.{◌≡◌, ◌∙◌, ◌++◌, ℕ, List, [], ◌∷◌, ap, subst, sym}
 use Rattle.std.specs.Prelude.{Bool, true, false, Option, None, Some, if◌then◌else◌, nat_eq, slice_get}
+use Rattle.slotted_lists.proofs.Lists.{slice_get-append_left}
 use Rattle.slotted_slots.specs.Syntax.{Element}
 use Rattle.slotted_theory.specs.Term.{Term}
 use Rattle.slotted_nodes.specs.Form.{Form}
@@ -10,11 +11,6 @@ use Rattle.slotted_workspace.specs.Asked.{AddsTerm, ChangesGraph}
 use Rattle.slotted_workspace.specs.Spaces.{Space, term_at}
 use Rattle.slotted_workspace.specs.declared.handle.Handle.{Handle}
 
-get-first : {A : Type 0} (xs ys : List A) (i : ℕ) (x : A) → slice_get xs i ≡ Some x → slice_get (xs ++ ys) i ≡ Some x
-get-first [] ys i x e = absurd (None-Some x e)
-get-first (y ∷ xs) ys zero x e = e
-get-first (y ∷ xs) ys (suc i) x e = get-first xs ys i x e
-
 chosen-later : {A : Type 0} (b : Bool) (o p : Option A) (x : A) → (o ≡ Some x → p ≡ Some x) → (if b then o else None) ≡ Some x → (if b then p else None) ≡ Some x
 chosen-later true o p x later e = later e
 chosen-later false o p x later e = absurd (None-Some x e)
@@ -23,7 +19,7 @@ chosen-later false o p x later e = absurd (None-Some x e)
 pub stands-later : (s v : Space) (h : Handle) (t u : Term) → v.number ≡ s.number → v.terms ≡ s.terms ++ u ∷ [] → term_at s h ≡ Some t → term_at v h ≡ Some t
 stands-later s v h t u number terms e =
     (λ i. if nat_eq h.workspace (number i) then slice_get (terms i) h.index else None)
-    ∙ chosen-later (nat_eq h.workspace s.number) (slice_get s.terms h.index) (slice_get (s.terms ++ u ∷ []) h.index) t (get-first s.terms (u ∷ []) h.index t) e
+    ∙ chosen-later (nat_eq h.workspace s.number) (slice_get s.terms h.index) (slice_get (s.terms ++ u ∷ []) h.index) t (slice_get-append_left s.terms (u ∷ []) h.index t) e
 
 -- and so it does where the graph alone changes
 pub stands-changed : (s v : Space) (h : Handle) (t : Term) → ChangesGraph s v → term_at s h ≡ Some t → term_at v h ≡ Some t

@@ -2,7 +2,9 @@
 use Rattle.std.proofs.Common.{◌≡◌, ◌∙◌, ◌++◌, ℕ, zero, suc, List, [], ◌∷◌, length, ap, subst, refl, arith}
 use Rattle.std.specs.Prelude.{All, Bool, true, false, Option, None, Some, if◌then◌else◌, map, nat_eq, option_map, slice_get}
 use Rattle.std.proofs.lemmas.Bool.{eq-eqb}
-use Rattle.slotted_model.proofs.Data.Options.{Some-same, None-Some}
+use Rattle.slotted_lists.proofs.Options.{Some-same}
+use Rattle.slotted_lists.proofs.Lists.{slice_get-append_end}
+use Rattle.slotted_model.proofs.Data.Options.{None-Some}
 use Rattle.slotted_theory.specs.Term.{Term}
 use Rattle.slotted_workspace.specs.Keeping.{found_in, terms_of}
 use Rattle.slotted_workspace.specs.Spaces.{Space, term_at}
@@ -13,10 +15,6 @@ get-map : {A B : Type 0} (f : A → B) (xs : List A) (i : ℕ) → slice_get (ma
 get-map f [] i = refl
 get-map f (x ∷ xs) zero = refl
 get-map f (x ∷ xs) (suc i) = get-map f xs i
-
-get-last : {A : Type 0} (xs : List A) (x : A) → slice_get (xs ++ x ∷ []) (length xs) ≡ Some x
-get-last [] x = refl
-get-last (y ∷ xs) x = get-last xs x
 
 get-all : {A : Type 0} (P : A → Type 0) (xs : List A) (i : ℕ) (x : A) → All P xs → slice_get xs i ≡ Some x → P x
 get-all P [] i x all e = absurd (None-Some x e)
@@ -52,4 +50,4 @@ one-of P kept number h k all e = get-all P kept h.index k all (taken (nat_eq h.w
 -- the handle of what comes next
 pub stands-next : (s : Space) (before : List Term) (t : Term) → s.terms ≡ before ++ t ∷ [] → term_at s (record { workspace = s.number; index = length before }) ≡ Some t
 stands-next s before t terms =
-    ap (λ b. if b then slice_get s.terms (length before) else None) (eq-eqb s.number s.number refl) ∙ (ap (λ l. slice_get l (length before)) terms ∙ get-last before t)
+    ap (λ b. if b then slice_get s.terms (length before) else None) (eq-eqb s.number s.number refl) ∙ (ap (λ l. slice_get l (length before)) terms ∙ slice_get-append_end before t)

@@ -2,10 +2,11 @@
 use Rattle.std.proofs.Common.{◌≡◌, ◌≢◌, ◌↔◌, ℕ, ◌<◌, List, [], ◌∷◌, Option, false, get_or, drop, length, sym, ◌∙◌, ap, refl, subst, inl, inr, arith}
 use Rattle.std.specs.Prelude.{Contains}
 use Rattle.std.proofs.lemmas.Bool.{cases_Bool, false≢true}
+use Rattle.slotted_lists.proofs.Contained.{Contains-map, above, Contains-below}
+use Rattle.slotted_lists.proofs.Members.{In, In-Contains, Contains-In}
 use Rattle.slotted_theory.specs.Nameless.{DTerm}
 use Rattle.slotted_theory.specs.Renaming.{swapped}
 use Rattle.slotted_theory.proofs.Bijections.{to-injective, swap, swapped-first, swapped-other}
-use Rattle.slotted_theory.proofs.Lists.{Contains-map, above, Contains-below}
 use Rattle.slotted_theory.proofs.Equals.{Equal-through}
 use Rattle.slotted_theory.specs.Derives.{Equal}
 use Rattle.slotted_theory.specs.FiniteMaps.{with_values}
@@ -17,7 +18,6 @@ use Rattle.slotted_model.specs.ProofList.{ProofEntry, asserted}
 use Rattle.slotted_model.specs.Sound.{Sound}
 use Rattle.slotted_model.specs.Closed.{IsClosed}
 use Rattle.slotted_model.specs.Find.{Entry, find_map, used_slots, find, Linked}
-use Rattle.slotted_model.proofs.Data.Members.{In, In-Contains, Contains-In}
 use Rattle.slotted_model.proofs.Data.Sets.{IsAscending-ascending, same_members}
 use Rattle.slotted_model.proofs.Represented.Full.{full-renamed}
 use Rattle.slotted_model.proofs.Represented.Growing.{identity-full}

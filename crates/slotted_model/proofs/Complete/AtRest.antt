@@ -3,6 +3,7 @@ use Rattle.std.proofs.Common.{◌≡◌, ℕ, ◌<◌, List, [], Some, Bool, tru
 use Rattle.std.specs.Prelude.{◌↔◌, Contains, map}
 use Rattle.std.proofs.lemmas.Bool.{cases_Bool, false≢true}
 use Rattle.std.proofs.lemmas.List.{get_or_default}
+use Rattle.slotted_lists.proofs.Options.{Some-same}
 use Rattle.slotted_theory.specs.Term.{Term}
 use Rattle.slotted_theory.specs.Nameless.{DTerm, nameless}
 use Rattle.slotted_theory.specs.Derives.{Derives, Equal, nameless_pair}
@@ -21,7 +22,7 @@ use Rattle.slotted_model.specs.Sound.{Sound}
 use Rattle.slotted_model.specs.Rest.{IsValidIn, AtRest, IsAffected, CoversAffected, FoundTogether, LookedUp, RestGives}
 use Rattle.slotted_model.specs.Affected.{is_affected, HasNoOpenSymmetries, AreAlikeOrAffected}
 use Rattle.slotted_model.specs.Closed.{AreAlikeUpTo, IsAnswered, IsFoundPair, IsClosed}
-use Rattle.slotted_model.proofs.Data.Options.{None-Some, Some-same}
+use Rattle.slotted_model.proofs.Data.Options.{None-Some}
 use Rattle.slotted_model.proofs.Represented.Children.{EachChild-map}
 use Rattle.slotted_model.proofs.Represented.Full.{full-children}
 use Rattle.slotted_model.proofs.Finds.NormalIds.{found-again, full-is_valid}

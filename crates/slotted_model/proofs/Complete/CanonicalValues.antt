@@ -2,6 +2,7 @@
 use Rattle.std.proofs.Common.{◌≡◌, ℕ, zero, suc, ◌<◌, List, [], Option, Some, None, Bool, true, false, sym, ◌∙◌, ap, refl, arith, inl, inr}
 use Rattle.std.specs.Prelude.{◌↔◌, Contains, nat_lt}
 use Rattle.std.proofs.lemmas.Bool.{cases_Bool, false≢true}
+use Rattle.slotted_lists.proofs.Options.{Some-same}
 use Rattle.slotted_theory.specs.Nameless.{DArgs, DTerm, stop, place, sub, scope, moved}
 use Rattle.slotted_theory.specs.FiniteMaps.{filled}
 use Rattle.slotted_theory.specs.Derives.{Equal}
@@ -25,7 +26,6 @@ use Rattle.slotted_model.proofs.Finds.Congruence.{child-applied}
 use Rattle.slotted_model.proofs.Represented.Full.{full-children, term_of-layer}
 use Rattle.slotted_model.proofs.Finds.NormalIds.{filling-found}
 use Rattle.slotted_model.proofs.Represented.RenamedIds.{normal-moves}
-use Rattle.slotted_model.proofs.Data.Options.{Some-same}
 use Rattle.slotted_model.proofs.Finds.FindProofs.{found_alike-equal}
 use Rattle.slotted_model.proofs.Complete.LookedUpTrees.{Answered, answered, value-look_up, look_up-value}
 use Rattle.slotted_model.proofs.Represented.Folds.{as_term-same}

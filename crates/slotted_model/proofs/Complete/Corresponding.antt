@@ -3,13 +3,14 @@ use Rattle.std.proofs.Common.{◌≡◌, ℕ, ◌<◌, List, [], ◌++◌, Some,
 use Rattle.std.specs.Prelude.{Contains}
 use Rattle.std.proofs.lemmas.Bool.{cases_Bool, false≢true}
 use Rattle.std.proofs.lemmas.List.Elements.{Contains-append_left, Contains-append_right}
+use Rattle.slotted_lists.proofs.Contained.{above, Contains-below}
+use Rattle.slotted_lists.proofs.Members.{In, Contains-In}
 use Rattle.slotted_theory.specs.Nameless.{DTerm}
 use Rattle.slotted_theory.specs.Renaming.{Bijection, IsInjective, swapped}
 use Rattle.slotted_theory.specs.Derives.{Equal, turned, joined, moving}
 use Rattle.slotted_theory.specs.FiniteMaps.{with_values}
 use Rattle.slotted_theory.proofs.Bijections.{to-injective, swap, swapped-first, swapped-other}
 use Rattle.slotted_theory.proofs.Equals.{Equal-through}
-use Rattle.slotted_theory.proofs.Lists.{above, Contains-below}
 use Rattle.slotted_model.specs.Applied.{Applied, values, renamed_id}
 use Rattle.slotted_model.specs.Classes.{term_of, IsFull}
 use Rattle.slotted_model.specs.Correspondence.{has_slot}
@@ -22,7 +23,6 @@ use Rattle.slotted_model.specs.Rest.{IsValidIn, AtRest}
 use Rattle.slotted_model.specs.Affected.{HasNoOpenSymmetries, AreAlikeOrAffected}
 use Rattle.slotted_model.specs.Trees.{IsTree}
 use Rattle.slotted_model.specs.Agreement.{Knows, Correspond, HasTermsOf}
-use Rattle.slotted_model.proofs.Data.Members.{In, Contains-In}
 use Rattle.slotted_model.proofs.Represented.Full.{full-renamed, term_of-renamed}
 use Rattle.slotted_model.proofs.Represented.Fillings.{a_filling}
 use Rattle.slotted_model.proofs.Complete.Agreement.{unmoved-names}

@@ -4,13 +4,13 @@ use Rattle.std.specs.Prelude.{Contains}
 use Rattle.std.proofs.lemmas.Bool.{cases_lt}
 use Rattle.std.proofs.lemmas.List.{length-append}
 use Rattle.std.proofs.lemmas.List.Elements.{Contains-append_left, Contains-append_cases}
+use Rattle.slotted_lists.proofs.Contained.{contains_head, contains_tail, contains_cases, Contains-nil}
 use Rattle.slotted_theory.specs.Nameless.{DTerm, moved}
 use Rattle.slotted_theory.specs.Derives.{Equal, listed, turned, joined, moving}
 use Rattle.slotted_theory.specs.Renaming.{Bijection}
 use Rattle.slotted_theory.specs.Shape.{shape}
 use Rattle.slotted_theory.proofs.Bijections.{to-injective}
 use Rattle.slotted_theory.proofs.Equals.{Equal-through, Equal-more, Equal-along}
-use Rattle.slotted_theory.proofs.Lists.{contains_head, contains_tail, contains_cases, Contains-nil}
 use Rattle.slotted_theory.proofs.Shapes.{shape_iff}
 use Rattle.slotted_model.specs.Applied.{Applied, renamed_id}
 use Rattle.slotted_model.specs.Classes.{term_of, layer_of, IsFull, Canonical}

@@ -1,6 +1,8 @@
 -- What is looked up is equal by what was asserted: a node to the term of its answer, and so a tree.
 use Rattle.std.proofs.Common.{◌≡◌, ℕ, ◌<◌, List, [], Option, Some, length, sym, ◌∙◌, ap, refl, subst, arith}
 use Rattle.std.specs.Prelude.{Contains, option_and_then}
+use Rattle.slotted_lists.proofs.Contained.{Contains-nil}
+use Rattle.slotted_lists.proofs.Options.{Some-same}
 use Rattle.slotted_theory.specs.Nameless.{DArgs, DTerm, stop, place, sub, scope, moved}
 use Rattle.slotted_theory.specs.FiniteMaps.{filled}
 use Rattle.slotted_theory.specs.Shape.{free_names, shape, SameUpToNames}
@@ -8,7 +10,6 @@ use Rattle.slotted_theory.specs.Derives.{Equal, joined, within, EqualArgs, equal
 use Rattle.slotted_theory.proofs.Bijections.{to-injective}
 use Rattle.slotted_theory.proofs.Equals.{Equal-from_path}
 use Rattle.slotted_theory.proofs.Shapes.{shape_iff}
-use Rattle.slotted_theory.proofs.Lists.{Contains-nil}
 use Rattle.slotted_theory.proofs.Values.{node, child_before, expand_args, expand}
 use Rattle.slotted_model.specs.Applied.{Applied, map_on, renamed_id, as_term, applied_of, EachChild}
 use Rattle.slotted_model.specs.Classes.{stands, terms, canonical_node, canonical_slots, term_of, layer_of, IsFull}
@@ -22,7 +23,7 @@ use Rattle.slotted_model.specs.Sound.{Sound}
 use Rattle.slotted_model.specs.State.{Row, State, normal_node, row_of, source_with_names, look_up_normal, look_up_node, look_up_tree}
 use Rattle.slotted_model.specs.Rest.{IsValidIn, IsCurrent, AtRest}
 use Rattle.slotted_model.proofs.Data.Sets.{In-ascending}
-use Rattle.slotted_model.proofs.Data.Options.{option_map-some, both-some, and_then-some, Some-same}
+use Rattle.slotted_model.proofs.Data.Options.{option_map-some, both-some, and_then-some}
 use Rattle.slotted_model.proofs.Data.Parts.{kind, first_name, first_child, first_scope, after_first}
 use Rattle.slotted_model.proofs.Data.Theory.{moved-agrees, moved-id}
 use Rattle.slotted_model.proofs.Data.Maps.{filled-map_on}

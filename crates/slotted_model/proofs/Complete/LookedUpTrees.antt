@@ -2,6 +2,8 @@
 use Rattle.std.proofs.Common.{◌≡◌, ℕ, ◌<◌, Option, Some, None, Bool, false, sym, ◌∙◌, ap, refl, inl, inr}
 use Rattle.std.specs.Prelude.{◌||◌, nat_lt, option_map, option_and_then}
 use Rattle.std.proofs.lemmas.Bool.{cases_Bool, false≢true, lt-ltb}
+use Rattle.slotted_lists.proofs.Booleans.{or-false}
+use Rattle.slotted_lists.proofs.Options.{Some-same}
 use Rattle.slotted_theory.specs.Nameless.{DArgs, DTerm, stop, place, sub, scope}
 use Rattle.slotted_theory.proofs.Values.{node, child_before, value_args}
 use Rattle.slotted_model.specs.Applied.{Applied, as_term}
@@ -9,9 +11,9 @@ use Rattle.slotted_model.specs.Trees.{HasNoIds, IsTree}
 use Rattle.slotted_model.specs.Ids.{term_eq}
 use Rattle.slotted_model.specs.LookUp.{both, look_up_args, look_up}
 use Rattle.slotted_model.specs.Value.{fixed, has_fixed, has_node, id_value, answer_value, step, value_of_term}
-use Rattle.slotted_model.proofs.Data.Options.{option_map-some, both-some, and_then-some, Some-same}
+use Rattle.slotted_model.proofs.Data.Options.{option_map-some, both-some, and_then-some}
 use Rattle.slotted_model.proofs.Represented.Folds.{as_term-same}
-use Rattle.slotted_model.proofs.Complete.Marks.{or-false, step-fixed, step-node, step-ids, id_value-marked, id_value-plain}
+use Rattle.slotted_model.proofs.Complete.Marks.{step-fixed, step-node, step-ids, id_value-marked, id_value-plain}
 
 -- the look-up of a node over ids gave this id as its value
 pub record Answered (look : DTerm → Option Applied) (marked : ℕ → Bool) (d : DTerm) : Type 0 where

@@ -3,12 +3,13 @@ use Rattle.std.proofs.Common.{◌≡◌, ℕ, List, [], ◌∷◌, ◌++◌, Opt
 use Rattle.std.specs.Prelude.{Contains, cond, ◌&&◌, ◌||◌, option_map, nat_eq, nat_lt}
 use Rattle.std.proofs.lemmas.Bool.{cases_Bool, or_cases, false≢true}
 use Rattle.std.proofs.lemmas.List.Elements.{Contains-append_left, Contains-append_right}
+use Rattle.slotted_lists.proofs.Contained.{contains_head, contains_tail}
+use Rattle.slotted_lists.proofs.Booleans.{or-false}
 use Rattle.slotted_theory.specs.Nameless.{DArgs, DTerm, stop, place, sub, scope, lift, moved, moved_args}
 use Rattle.slotted_theory.specs.Renaming.{IsInjective}
 use Rattle.slotted_theory.specs.Decided.{lists_eq, args_eq}
 use Rattle.slotted_theory.proofs.Values.{node, child_before, value_args, value, Commutes}
 use Rattle.slotted_theory.proofs.Values as inductions
-use Rattle.slotted_theory.proofs.Lists.{contains_head, contains_tail}
 use Rattle.slotted_model.specs.Applied.{Applied, renamed_id, as_term, applied_of}
 use Rattle.slotted_model.specs.Ids.{term_eq}
 use Rattle.slotted_model.specs.LookUp.{Renames}
@@ -150,10 +151,6 @@ has_fixed-valued found marked (sub op payloads args rest) =
     let a : Applied = find found (applied_of payloads args) in
     λ i. is_fixed-value (marked a.0) a i || has_fixed-valued found marked rest i
 has_fixed-valued found marked (scope inner rest) = λ i. has_fixed-valued found marked inner i || has_fixed-valued found marked rest i
-
-pub or-false : (x y : Bool) → (x || y) ≡ false → (x ≡ false) × (y ≡ false)
-or-false true y e = absurd (false≢true (sym e))
-or-false false y e = (refl, e)
 
 -- where no child finds a marked class the values of the children are what they find
 pub valued-normal : (found : List Entry) (marked : ℕ → Bool) (d : DArgs) → has_marked marked (normal_args found d) ≡ false → valued_args found marked d ≡ normal_args found d

@@ -4,6 +4,7 @@ use Rattle.std.specs.Prelude.{nat_eq}
 use Rattle.std.specs.Map.{keys_of}
 use Rattle.std.proofs.lemmas.Bool.{cases_eq, eq-eqb, ne_eqb}
 use Rattle.std.proofs.lemmas.List.{length-map}
+use Rattle.slotted_lists.proofs.Members.{In, In-Contains, Contains-In}
 use Rattle.slotted_model.specs.Applied.{Applied, keys, values}
 use Rattle.slotted_model.specs.Affected.{HasNoOpenSymmetries}
 use Rattle.slotted_model.specs.Agreement.{Knows, Correspond, HasTermsOf, Agree}
@@ -17,7 +18,6 @@ use Rattle.slotted_model.proofs.Correspondences.Listing.{injective-different}
 use Rattle.slotted_model.proofs.Finds.Finding.{leads, find_class-live, found-in_range, found-live}
 use Rattle.slotted_model.proofs.Represented.Growing.{identity-full}
 use Rattle.slotted_model.proofs.Data.Injections.{sum_from, sum-at_most}
-use Rattle.slotted_model.proofs.Data.Members.{In, In-Contains, Contains-In}
 use Rattle.slotted_model.proofs.Finds.NormalIds.{found-full, found-slots, full-is_valid, used-live}
 use Rattle.slotted_model.proofs.Data.Sets.{ascending-same}
 use Rattle.slotted_model.proofs.Rebuilding.Touching.{different-length}

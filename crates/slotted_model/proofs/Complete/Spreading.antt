@@ -1,19 +1,20 @@
 -- The test of affected classes says yes to just the affected ones.
 use Rattle.std.proofs.Common.{◌≡◌, ◌↔◌, ℕ, zero, suc, ◌<◌, ◌≤◌, List, [], ◌∷◌, ◌++◌, Bool, true, false, length, sym, ◌∙◌, ap, refl, subst, arith, inl, inr}
-use Rattle.std.specs.Prelude.{map, filter, not, cond, ◌||◌, nat_eq, IsTrue}
+use Rattle.std.specs.Prelude.{map, filter, not, ◌||◌, nat_eq, IsTrue}
 use Rattle.std.specs.List.{list_any}
 use Rattle.std.proofs.lemmas.Bool.{cases_Bool, or_cases, false≢true, eq-eqb, eqb-true}
+use Rattle.slotted_lists.proofs.Members.{In, In-left, In-right, In-append, In-map, In-of_map, In-Contains, Contains-In, In-filter as In-of_filter}
+use Rattle.slotted_lists.proofs.Booleans.{or-false}
+use Rattle.slotted_lists.proofs.Lists.{filter-yes, filter-no}
 use Rattle.slotted_model.specs.Applied.{Applied, as_term}
 use Rattle.slotted_model.specs.Correspondence.{has_slot}
 use Rattle.slotted_model.specs.Find.{Entry, find_class, find}
 use Rattle.slotted_model.specs.State.{Row, Symmetry, State, left_of, right_of, child_classes}
 use Rattle.slotted_model.specs.Rest.{IsOpen, IsAffected, by_symmetry, by_child, CoversAffected}
 use Rattle.slotted_model.specs.Affected.{id_eq, is_open, open_classes, stands_over, spread, is_affected}
-use Rattle.slotted_model.proofs.Data.Members.{In, In-left, In-right, In-append, In-map, In-of_map, In-Contains, Contains-In}
 use Rattle.slotted_model.proofs.Represented.Ids.{term_eq-true, term_eq-same}
 use Rattle.slotted_model.proofs.Represented.Folds.{as_term-same}
 use Rattle.slotted_model.proofs.Rebuilding.Affected.{affected-marked}
-use Rattle.slotted_model.proofs.Complete.Marks.{or-false}
 
 -- some element passes a test
 any-some : {X : Type 0} (p : X → Bool) (xs : List X) → list_any p xs ≡ true → (x : X) × In x xs × (p x ≡ true)
@@ -40,29 +41,12 @@ has_slot-in cs c e =
 pub in-has_slot : (cs : List ℕ) (c : ℕ) → In c cs → has_slot cs c ≡ true
 in-has_slot cs c h = any-by (nat_eq c) cs c h (eq-eqb c c refl)
 
--- a filter keeps what passes, and no more
-filter-yes : {X : Type 0} (p : X → Bool) (x : X) (xs : List X) → p x ≡ true → filter p (x ∷ xs) ≡ x ∷ filter p xs
-filter-yes p x xs e = ap (λ b. cond b (x ∷ filter p xs) (filter p xs)) e
-
-filter-no : {X : Type 0} (p : X → Bool) (x : X) (xs : List X) → p x ≡ false → filter p (x ∷ xs) ≡ filter p xs
-filter-no p x xs e = ap (λ b. cond b (x ∷ filter p xs) (filter p xs)) e
-
 In-filter : {X : Type 0} (p : X → Bool) (xs : List X) (x : X) → In x xs → p x ≡ true → In x (filter p xs)
 In-filter p [] x h e = absurd h
 In-filter p (y ∷ xs) x (inl q) e = subst (In x) (sym (filter-yes p y xs (ap p (sym q) ∙ e))) (inl q)
 In-filter p (y ∷ xs) x (inr h) e = elim (cases_Bool (p y)) [
   | inl t ↦ subst (In x) (sym (filter-yes p y xs t)) (inr (In-filter p xs x h e))
   | inr f ↦ subst (In x) (sym (filter-no p y xs f)) (In-filter p xs x h e)
-]
-
-In-of_filter : {X : Type 0} (p : X → Bool) (xs : List X) (x : X) → In x (filter p xs) → In x xs × (p x ≡ true)
-In-of_filter p [] x h = absurd h
-In-of_filter p (y ∷ xs) x h = elim (cases_Bool (p y)) [
-  | inl t ↦ elim (subst (In x) (filter-yes p y xs t) h) [
-    | inl q ↦ (inl q, ap p q ∙ t)
-    | inr k ↦ let r = In-of_filter p xs x k in (inr r.0, r.1)
-  ]
-  | inr f ↦ let r = In-of_filter p xs x (subst (In x) (filter-no p y xs f) h) in (inr r.0, r.1)
 ]
 
 -- a filter by the converse of a test: all stay where none passes, and some go where one does

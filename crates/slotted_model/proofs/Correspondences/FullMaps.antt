@@ -4,10 +4,11 @@ use Rattle.std.specs.Prelude.{◌↔◌, Contains, option_map, ◌++◌}
 use Rattle.std.specs.List.{cons_option}
 use Rattle.std.specs.Map.{keys_of, values_of}
 use Rattle.std.proofs.lemmas.List.Elements.{Contains-append_left, Contains-append_right}
+use Rattle.slotted_lists.proofs.Contained.{contains_head, contains_tail, contains_cases, Contains-nil, Contains-map}
+use Rattle.slotted_lists.proofs.Maps.{value_of-first, value_of-rest, with_values-pair}
 use Rattle.slotted_theory.specs.FiniteMaps.{value_of, HasValue, IsInjectiveMap, with_values}
-use Rattle.slotted_theory.proofs.Lists.{contains_head, contains_tail, contains_cases, Contains-nil, Contains-map, Contains-of_map}
 use Rattle.slotted_model.specs.Correspondence.{AllDifferent, IsFullMap, IsInjectiveOn, pairs_on, flipped, turned, same_names, IsPartialInjection, identity}
-use Rattle.slotted_model.proofs.Correspondences.Pairs.{Contains-composite, Contains-flipped, Contains-of_flipped, Contains-key, Contains-of_key, Contains-value, value_of-same, value_of-other, value_of-only, pairs_on-agree}
+use Rattle.slotted_model.proofs.Correspondences.Pairs.{Contains-composite, Contains-flipped, Contains-of_flipped, Contains-key, Contains-of_key, Contains-value, value_of-only, pairs_on-agree}
 use Rattle.slotted_model.proofs.Correspondences.PartialInjections.{in_order-ext, one_partner, composite-in_order, composite-over, pairs_on-in_order, turned-pair, turned-by, identity-in_order, identity-pair, identity-by, identity-both}
 
 -- a value of a map stands at a key
@@ -54,8 +55,8 @@ pub keys-in_order : (m : List (ℕ × ℕ)) → AllDifferent (keys_of m) → pai
 keys-in_order [] d = refl
 keys-in_order (p ∷ m) d =
     let rest : pairs_on (keys_of m) (value_of (p ∷ m)) ≡ m = pairs_on-agree (keys_of m) (value_of (p ∷ m)) (value_of m)
-    (λ s c. value_of-other p m s (λ e. d.0 (subst (λ x. Contains (keys_of m) x) e c))) ∙ keys-in_order m d.1 in
-    λ i. cons_option (option_map (λ t. (p.0, t)) (value_of-same p m p.0 refl i)) (rest i)
+    (λ s c. value_of-rest p m s (λ e. d.0 (subst (λ x. Contains (keys_of m) x) e c))) ∙ keys-in_order m d.1 in
+    λ i. cons_option (option_map (λ t. (p.0, t)) (value_of-first p m p.0 refl i)) (rest i)
 
 pub full-in_order : (P : List ℕ) (m : List (ℕ × ℕ)) → IsFullMap P m → pairs_on P (value_of m) ≡ m
 full-in_order P m f =
@@ -103,11 +104,6 @@ with_values-keys f (p ∷ m) = ap (λ L. p.0 ∷ L) (with_values-keys f m)
 
 pub with_values-by : (f : ℕ → ℕ) (m : List (ℕ × ℕ)) (s x : ℕ) → Contains m (s, x) → Contains (with_values f m) (s, f x)
 with_values-by f m s x c = Contains-map (λ p. (p.0, f p.1)) m (s, x) c
-
-pub with_values-pair : (f : ℕ → ℕ) (m : List (ℕ × ℕ)) (s y : ℕ) → Contains (with_values f m) (s, y) → (x : ℕ) × Contains m (s, x) × (f x ≡ y)
-with_values-pair f m s y c =
-    let r : (p : ℕ × ℕ) × Contains m p × (◌≡◌ {A = ℕ × ℕ} (p.0, f p.1) (s, y)) = Contains-of_map (λ p. (p.0, f p.1)) m (s, y) c in
-    (r.0.1, subst (λ k. Contains m (k, r.0.1)) (ap (λ q. q.0) r.2) r.1, ap (λ q. q.1) r.2)
 
 pub with_values-full : (f : ℕ → ℕ) (P : List ℕ) (m : List (ℕ × ℕ)) → IsFullMap P m → IsInjectiveOn f (values_of m) → IsFullMap P (with_values f m)
 with_values-full f P m h i = full-from P (with_values f m) (with_values-keys f m ∙ h.slots) h.once

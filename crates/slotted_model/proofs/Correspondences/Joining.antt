@@ -4,7 +4,7 @@ use Rattle.std.specs.Prelude.{Contains, option_map, ◌&&◌, ◌||◌, not, nat
 use Rattle.std.specs.List.{list_any, list_all, cons_option}
 use Rattle.std.specs.Map.{keys_of, values_of}
 use Rattle.std.proofs.lemmas.Bool.{and_parts, and_from, or_cases, or_left, or_right, eqb-true, eq-eqb, false≢true}
-use Rattle.slotted_theory.proofs.Lists.{contains_head, contains_tail, contains_cases, Contains-nil}
+use Rattle.slotted_lists.proofs.Contained.{contains_head, contains_tail, contains_cases, Contains-nil}
 use Rattle.slotted_model.specs.Correspondence.{IsFullMap, composite, turned, same_names, IsPartialInjection, CanJoin, has_pair, has_slot, can_join}
 use Rattle.slotted_model.proofs.Correspondences.Pairs.{Contains-value, Contains-of_key, Contains-of_value, value_of-found}
 use Rattle.slotted_model.proofs.Correspondences.PartialInjections.{composite-in_order, in_order-ext, one_partner, composite-over, composite-by, turned-pair, turned-by, turned-composite}

@@ -4,8 +4,8 @@ use Rattle.std.specs.Prelude.{Contains, filter, option_map, is_some, cond, nat_e
 use Rattle.std.specs.List.{cons_option}
 use Rattle.std.specs.Map.{keys_of, values_of}
 use Rattle.std.proofs.lemmas.List.Elements.{filter_agree}
+use Rattle.slotted_lists.proofs.Contained.{contains_head, contains_tail, contains_cases}
 use Rattle.slotted_theory.specs.FiniteMaps.{value_of, IsInjectiveMap}
-use Rattle.slotted_theory.proofs.Lists.{contains_head, contains_tail, contains_cases}
 use Rattle.slotted_model.specs.Correspondence.{AllDifferent, pairs_on, IsPartialInjection, has_slot}
 use Rattle.slotted_model.proofs.Correspondences.Pairs.{Contains-value, Contains-of_value}
 use Rattle.slotted_model.proofs.Correspondences.FullMaps.{HasValue-at, at_HasValue, injective_map-keys, injective_map-from, keys-in_order}

@@ -3,14 +3,15 @@ use Rattle.std.proofs.Common.{◌≡◌, ℕ, List, [], ◌∷◌, sym, ◌∙�
 use Rattle.std.specs.Prelude.{Contains, ◌++◌, ◌⊎◌, ◌↔◌}
 use Rattle.std.proofs.lemmas.Bool.{cases_eq}
 use Rattle.std.proofs.lemmas.List.Elements.{Contains-append_left, Contains-append_right, Contains-append_cases}
+use Rattle.slotted_lists.proofs.Contained.{contains_head, contains_tail, contains_cases, Contains-nil}
+use Rattle.slotted_lists.proofs.Maps.{with_values-pair}
 use Rattle.slotted_theory.specs.Renaming.{Bijection, IsInjective}
-use Rattle.slotted_theory.proofs.Lists.{contains_head, contains_tail, contains_cases, Contains-nil}
 use Rattle.slotted_theory.proofs.Bijections.{to-injective, then, swap, same, swapped-first, swapped-other}
 use Rattle.slotted_theory.specs.FiniteMaps.{with_values}
 use Rattle.slotted_model.specs.Correspondence.{IsFullMap, flipped, composite, same_names, IsMatch}
 use Rattle.slotted_model.proofs.Correspondences.Pairs.{Contains-flipped, Contains-of_flipped}
 use Rattle.slotted_model.proofs.Correspondences.PartialInjections.{composite-over, composite-by}
-use Rattle.slotted_model.proofs.Correspondences.FullMaps.{full-in_order, full-name, full-slot, full-one_name, full-one_slot, full-ext, with_values-full, with_values-pair, same_names-over, same_names-by, same_names-with_values}
+use Rattle.slotted_model.proofs.Correspondences.FullMaps.{full-in_order, full-name, full-slot, full-one_name, full-one_slot, full-ext, with_values-full, same_names-over, same_names-by, same_names-with_values}
 
 -- a bijection of all names that takes the first name of each pair to the second
 pub record Takes (w : List (ℕ × ℕ)) : Type 0 where

@@ -5,8 +5,8 @@ use Rattle.std.specs.Option.{option_or}
 use Rattle.std.specs.Map.{keys_of, values_of}
 use Rattle.std.proofs.lemmas.Option.{none-some}
 use Rattle.std.proofs.lemmas.List.Elements.{Contains-append_left, Contains-append_right}
+use Rattle.slotted_lists.proofs.Contained.{Contains-nil, Contains-map, Contains-of_map, above, Contains-below}
 use Rattle.slotted_theory.specs.FiniteMaps.{value_of}
-use Rattle.slotted_theory.proofs.Lists.{Contains-nil, Contains-map, Contains-of_map, above, Contains-below}
 use Rattle.slotted_model.specs.Correspondence.{AllDifferent, IsFullMap, pairs_on, composite, turned, same_names, IsPartialInjection, CanJoin}
 use Rattle.slotted_model.proofs.Correspondences.Pairs.{Contains-key, Contains-value, Contains-of_key, Contains-of_value, Contains-value_of, value_of-found}
 use Rattle.slotted_model.proofs.Correspondences.PartialInjections.{key_in_order, one_partner, composite-over, composite-by, turned-pair, turned-by}

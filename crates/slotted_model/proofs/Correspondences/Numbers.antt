@@ -4,9 +4,9 @@ use Rattle.std.specs.Prelude.{Contains, map, length, unwrap_or, is_some, cond, â
 use Rattle.std.specs.Map.{keys_of, values_of}
 use Rattle.std.proofs.lemmas.Bool.{cases_eq}
 use Rattle.std.proofs.lemmas.List.Elements.{Contains-append_left, Contains-append_right}
+use Rattle.slotted_lists.proofs.Contained.{contains_head, contains_tail, contains_cases, Contains-nil}
 use Rattle.slotted_theory.specs.Renaming.{IsInjective}
 use Rattle.slotted_theory.specs.FiniteMaps.{value_of, with_values}
-use Rattle.slotted_theory.proofs.Lists.{contains_head, contains_tail, contains_cases, Contains-nil}
 use Rattle.slotted_theory.proofs.Bijections.{to-injective}
 use Rattle.slotted_model.specs.Correspondence.{AllDifferent, IsFullMap, flipped, composite, same_names, IsPartialInjection, IsMatch, numbered_from, numbered_after, numbered, IsNumberedAfter, IsNumberedForm}
 use Rattle.slotted_model.proofs.Correspondences.Pairs.{Contains-flipped, Contains-of_flipped, Contains-value_of, value_of-found}

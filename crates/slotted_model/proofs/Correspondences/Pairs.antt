@@ -1,13 +1,16 @@
 -- Lists of pairs: what a filter of them contains, and what is found in them.
-use Rattle.std.proofs.Common.{◌≡◌, ◌≢◌, ℕ, List, [], ◌∷◌, Option, Some, None, sym, ◌∙◌, ap, refl, subst, inl, inr}
-use Rattle.std.specs.Prelude.{Contains, filter_map, option_map, cond, ◌⊎◌}
+use Rattle.std.proofs.Common.{◌≡◌, ℕ, List, [], ◌∷◌, Option, Some, None, sym, ◌∙◌, ap, refl, subst, inl, inr}
+use Rattle.std.specs.Prelude.{Contains, filter_map, option_map, ◌⊎◌}
 use Rattle.std.specs.List.{cons_option}
 use Rattle.std.specs.Map.{keys_of, values_of}
-use Rattle.std.proofs.lemmas.Bool.{eq-eqb, ne_eqb, cases_eq}
+use Rattle.std.proofs.lemmas.Bool.{cases_eq}
 use Rattle.std.proofs.lemmas.Option.{none-some, same_Some}
+use Rattle.slotted_lists.proofs.Contained.{contains_head, contains_tail, contains_cases, Contains-nil, Contains-map, Contains-of_map}
+use Rattle.slotted_lists.proofs.Maps.{value_of-first, value_of-rest}
+use Rattle.slotted_lists.proofs.Members.{Contains-In, In, In-Contains}
 use Rattle.slotted_theory.specs.FiniteMaps.{value_of}
-use Rattle.slotted_theory.proofs.Lists.{contains_head, contains_tail, contains_cases, Contains-nil, Contains-map, Contains-of_map}
 use Rattle.slotted_model.specs.Correspondence.{pairs_on, flipped, composite}
+use Rattle.slotted_model.specs.Applied.{values}
 
 -- an optional element before a list
 cons_option-here : {Y : Type 0} (o : Option Y) (ys : List Y) (y : Y) → o ≡ Some y → Contains (cons_option o ys) y
@@ -99,31 +102,24 @@ Contains-of_value A t c =
     let r : (p : ℕ × ℕ) × Contains A p × (p.1 ≡ t) = Contains-of_map (λ p. p.1) A t c in
     (r.0.0, subst (λ x. Contains A (r.0.0, x)) r.2 r.1)
 
--- what is found at a key stands in the list, and at the key of a pair something is found
-pub value_of-same : (p : ℕ × ℕ) (A : List (ℕ × ℕ)) (s : ℕ) → s ≡ p.0 → value_of (p ∷ A) s ≡ Some p.1
-value_of-same p A s e = ap (λ b. cond b (Some p.1) (value_of A s)) (eq-eqb s p.0 e)
-
-pub value_of-other : (p : ℕ × ℕ) (A : List (ℕ × ℕ)) (s : ℕ) → s ≢ p.0 → value_of (p ∷ A) s ≡ value_of A s
-value_of-other p A s n = ap (λ b. cond b (Some p.1) (value_of A s)) (ne_eqb s p.0 n)
-
 pub Contains-value_of : (A : List (ℕ × ℕ)) (s t : ℕ) → value_of A s ≡ Some t → Contains A (s, t)
 Contains-value_of [] s t e = absurd (none-some t e)
 Contains-value_of (p ∷ A) s t e = elim (cases_eq s p.0) [
   | inl d ↦
-      let v : p.1 ≡ t = same_Some p.1 t (sym (value_of-same p A s d) ∙ e) in
+      let v : p.1 ≡ t = same_Some p.1 t (sym (value_of-first p A s d) ∙ e) in
       subst (λ q. Contains (p ∷ A) q) (λ i. (sym d i, v i)) (contains_head p A)
-  | inr n ↦ contains_tail p A (s, t) (Contains-value_of A s t (sym (value_of-other p A s n) ∙ e))
+  | inr n ↦ contains_tail p A (s, t) (Contains-value_of A s t (sym (value_of-rest p A s n) ∙ e))
 ]
 
 pub value_of-found : (A : List (ℕ × ℕ)) (s t : ℕ) → Contains A (s, t) → (v : ℕ) × (value_of A s ≡ Some v)
 value_of-found [] s t c = absurd (Contains-nil (s, t) c)
 value_of-found (p ∷ A) s t c = elim (cases_eq s p.0) [
-  | inl d ↦ (p.1, value_of-same p A s d)
+  | inl d ↦ (p.1, value_of-first p A s d)
   | inr n ↦ elim (contains_cases p A (s, t) c) [
     | inl e ↦ absurd (n (ap (λ q. q.0) e))
     | inr h ↦
         let r : (v : ℕ) × (value_of A s ≡ Some v) = value_of-found A s t h in
-        (r.0, value_of-other p A s n ∙ r.1)
+        (r.0, value_of-rest p A s n ∙ r.1)
   ]
 ]
 
@@ -133,14 +129,14 @@ value_of-only A s t c h =
     let r : (v : ℕ) × (value_of A s ≡ Some v) = value_of-found A s t c in
     r.1 ∙ ap Some (h r.0 (Contains-value_of A s r.0 r.1))
 
--- two optional numbers with the same value are the same
-pub same_options : (o p : Option ℕ) → ((t : ℕ) → o ≡ Some t → p ≡ Some t) → ((t : ℕ) → p ≡ Some t → o ≡ Some t) → o ≡ p
-same_options None None f g = refl
-same_options None (Some t) f g = g t refl
-same_options (Some t) p f g = sym (f t refl)
-
 -- two functions that agree on P give the same pairs
 pub pairs_on-agree : (P : List ℕ) (f g : ℕ → Option ℕ) → ((s : ℕ) → Contains P s → f s ≡ g s) → pairs_on P f ≡ pairs_on P g
 pairs_on-agree [] f g h = refl
 pairs_on-agree (s ∷ P) f g h =
     λ i. cons_option (option_map (λ t. (s, t)) (h s (contains_head s P) i)) (pairs_on-agree P f g (λ x c. h x (contains_tail s P x c)) i)
+
+pub In-values_composite : (A m : List (ℕ × ℕ)) (x : ℕ) → In x (values (composite A m)) → In x (values m)
+In-values_composite A m x h =
+    let p = Contains-of_value (composite A m) x (Contains-In (values (composite A m)) x h) in
+    let q = Contains-of_composite A m p.0 x p.1 in
+    In-Contains (values m) x (Contains-value m q.0 x q.2)

@@ -3,9 +3,10 @@ use Rattle.std.proofs.Common.{◌≡◌, ℕ, List, [], ◌∷◌, Option, Some,
 use Rattle.std.specs.Prelude.{Contains, option_map, option_and_then}
 use Rattle.std.specs.List.{cons_option}
 use Rattle.std.proofs.lemmas.Option.{same_Some}
+use Rattle.slotted_lists.proofs.Options.{same_options}
 use Rattle.slotted_theory.specs.FiniteMaps.{value_of}
 use Rattle.slotted_model.specs.Correspondence.{pairs_on, flipped, composite, turned, identity, IsPartialInjection}
-use Rattle.slotted_model.proofs.Correspondences.Pairs.{Contains-pairs_on, Contains-of_pairs_on, Contains-composite, Contains-of_composite, Contains-flipped, Contains-of_flipped, Contains-value_of, value_of-only, same_options, pairs_on-agree}
+use Rattle.slotted_model.proofs.Correspondences.Pairs.{Contains-pairs_on, Contains-of_pairs_on, Contains-composite, Contains-of_composite, Contains-flipped, Contains-of_flipped, Contains-value_of, value_of-only, pairs_on-agree}
 
 -- what stands in a list in the order of P is found there
 pub value_of-in_order : (P : List ℕ) (A : List (ℕ × ℕ)) → pairs_on P (value_of A) ≡ A → (s t : ℕ) → Contains A (s, t) → value_of A s ≡ Some t

@@ -2,11 +2,11 @@
 use Rattle.std.proofs.Common.{◌≡◌, ◌≢◌, ℕ, ◌<◌, List, [], ◌∷◌, sym, ◌∙◌, ap, refl, subst, inl, inr, arith}
 use Rattle.std.specs.Prelude.{map, nat_eq, cond}
 use Rattle.std.proofs.lemmas.Bool.{cases_eq, eq-eqb, ne_eqb}
+use Rattle.slotted_lists.proofs.Members.{In, In-map, In-of_map}
 use Rattle.slotted_theory.specs.Renaming.{Bijection, IsInjective}
 use Rattle.slotted_theory.proofs.Bijections.{to-injective, then}
 use Rattle.slotted_model.specs.Ascending.{IsAscending}
 use Rattle.slotted_model.specs.Applied.{keys, values}
-use Rattle.slotted_model.proofs.Data.Members.{In, In-map, In-of_map}
 use Rattle.slotted_model.proofs.Data.Sets.{below_each}
 
 exchange : ℕ → ℕ → ℕ → ℕ

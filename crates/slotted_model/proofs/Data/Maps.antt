@@ -2,11 +2,11 @@
 use Rattle.std.proofs.Common.{◌≡◌, ◌≢◌, ℕ, ◌+◌, ◌<◌, ◌≤◌, List, [], ◌∷◌, sym, ◌∙◌, ap, refl, subst, inl, inr, arith}
 use Rattle.std.specs.Prelude.{map}
 use Rattle.std.proofs.lemmas.Bool.{cases_eq}
+use Rattle.slotted_lists.proofs.Members.{In, In-map, In-of_map}
 use Rattle.slotted_theory.specs.Renaming.{IsInjective}
 use Rattle.slotted_theory.specs.FiniteMaps.{HasValue, IsInjectiveMap, top, filled, with_values}
 use Rattle.slotted_model.specs.Ascending.{IsAscending}
 use Rattle.slotted_model.specs.Applied.{keys, values, map_on}
-use Rattle.slotted_model.proofs.Data.Members.{In, In-map, In-of_map}
 use Rattle.slotted_model.proofs.Data.Sets.{below_each}
 use Rattle.slotted_theory.proofs.Filled as theory
 use Rattle.slotted_model.proofs.Data.Theory.{from-past, past, past-nil, past-key, past-other, filled-past}
@@ -23,14 +23,6 @@ keys-map_on f (k ∷ ks) = ap (λ l. k ∷ l) (keys-map_on f ks)
 pub values-map_on : (f : ℕ → ℕ) (ks : List ℕ) → values (map_on f ks) ≡ map f ks
 values-map_on f [] = refl
 values-map_on f (k ∷ ks) = ap (λ l. f k ∷ l) (values-map_on f ks)
-
-pub keys-with_values : (f : ℕ → ℕ) (m : List (ℕ × ℕ)) → keys (with_values f m) ≡ keys m
-keys-with_values f [] = refl
-keys-with_values f (p ∷ m) = ap (λ l. p.0 ∷ l) (keys-with_values f m)
-
-pub values-with_values : (f : ℕ → ℕ) (m : List (ℕ × ℕ)) → values (with_values f m) ≡ map f (values m)
-values-with_values f [] = refl
-values-with_values f (p ∷ m) = ap (λ l. f p.1 ∷ l) (values-with_values f m)
 
 pub map_on-agrees : (f g : ℕ → ℕ) (ks : List ℕ) → ((k : ℕ) → In k ks → f k ≡ g k) → map_on f ks ≡ map_on g ks
 map_on-agrees f g [] e = refl

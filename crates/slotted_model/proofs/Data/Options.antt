@@ -1,11 +1,9 @@
 -- What a value of a chain of options was made from.
 use Rattle.std.proofs.Common.{◌≡◌, Option, Some, None, sym, ap, refl}
-use Rattle.std.specs.Prelude.{option_map, option_and_then, unwrap_or, is_some}
+use Rattle.std.specs.Prelude.{option_map, option_and_then, is_some}
 use Rattle.std.proofs.lemmas.Bool.{false≢true}
+use Rattle.slotted_lists.proofs.Options.{Some-same}
 use Rattle.slotted_model.specs.LookUp.{both}
-
-pub Some-same : {A : Type 0} (x y : A) → Some x ≡ Some y → x ≡ y
-Some-same x y p = ap (λ o. unwrap_or o y) p
 
 pub None-Some : {A : Type 0} (y : A) → ◌≡◌ {A = Option A} None (Some y) → ⊥
 None-Some {A} y p = false≢true (ap (λ (o : Option A). is_some o) p)

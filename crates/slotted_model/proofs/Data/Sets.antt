@@ -2,8 +2,8 @@
 use Rattle.std.proofs.Common.{◌≡◌, ◌↔◌, ◌≢◌, ℕ, ◌<◌, List, [], ◌∷◌, sym, ◌∙◌, ap, refl, subst, inl, inr, arith, ◌⊎◌}
 use Rattle.std.specs.Prelude.{nat_eq, cond}
 use Rattle.std.proofs.lemmas.Bool.{cases_order, lt-ltb, le-ltb, eq-eqb, ne_eqb}
+use Rattle.slotted_lists.proofs.Members.{In}
 use Rattle.slotted_model.specs.Ascending.{IsBelowAll, IsAscending, with_name, ascending}
-use Rattle.slotted_model.proofs.Data.Members.{In}
 
 with_name-below : (x y : ℕ) (ys : List ℕ) → x < y → with_name x (y ∷ ys) ≡ x ∷ y ∷ ys
 with_name-below x y ys h = ap (λ b. cond b (x ∷ y ∷ ys) (cond (nat_eq x y) (y ∷ ys) (y ∷ with_name x ys))) (lt-ltb x y h)

@@ -2,6 +2,7 @@
 use Rattle.std.proofs.Common.{◌≡◌, ◌≢◌, ℕ, ◌+◌, List, [], ◌∷◌, Some, get_or, sym, ◌∙◌, ap, refl, inl, inr, true}
 use Rattle.std.specs.Prelude.{map, nat_eq, cond, unwrap_or}
 use Rattle.std.proofs.lemmas.Bool.{cases_eq, eq-eqb, ne_eqb}
+use Rattle.slotted_lists.proofs.Members.{In, In-Contains, Contains-In}
 use Rattle.slotted_theory.specs.Nameless.{DArgs, DTerm, moved, moved_args}
 use Rattle.slotted_theory.specs.FiniteMaps.{top, filled, value_of}
 use Rattle.slotted_theory.specs.Decided.{args_eq}
@@ -10,7 +11,6 @@ use Rattle.slotted_theory.proofs.Names.{extend-same, extend-other}
 use Rattle.slotted_theory.proofs.Laws as laws
 use Rattle.slotted_theory.proofs.FreeNames as free
 use Rattle.slotted_theory.proofs.Decides.{args_eq_iff}
-use Rattle.slotted_model.proofs.Data.Members.{In, In-Contains, Contains-In}
 
 pub moved_args-agrees : (f g : ℕ → ℕ) (d : DArgs) → ((x : ℕ) → In x (free_names d) → f x ≡ g x) → moved_args f d ≡ moved_args g d
 moved_args-agrees f g d e = free.moved_args-agrees f g d (λ x c. e x (In-Contains (free_names d) x c))

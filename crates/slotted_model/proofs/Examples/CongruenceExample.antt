@@ -3,11 +3,11 @@ use Rattle.std.proofs.Common.{◌≡◌, ◌≢◌, ℕ, zero, suc, ◌+◌, ◌
 use Rattle.std.specs.Prelude.{◌↔◌, Contains}
 use Rattle.std.specs.Map.{keys_of}
 use Rattle.std.proofs.lemmas.Bool.{false≢true}
+use Rattle.slotted_lists.proofs.Contained.{contains_head, contains_cases, Contains-nil}
 use Rattle.slotted_theory.specs.Nameless.{DTerm, stop}
 use Rattle.slotted_theory.specs.Term.{Term, done as no_args, child}
 use Rattle.slotted_theory.specs.Derives.{Derives, Equal, listed, within, equal_done, equal_child}
 use Rattle.slotted_theory.specs.Shape.{shape}
-use Rattle.slotted_theory.proofs.Lists.{contains_head, contains_cases, Contains-nil}
 use Rattle.slotted_theory.proofs.Values.{node, child_before}
 use Rattle.slotted_model.specs.Applied.{Applied, as_term, EachChild}
 use Rattle.slotted_model.specs.Classes.{canonical_slots, term_of, IsFull}

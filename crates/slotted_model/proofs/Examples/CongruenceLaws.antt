@@ -1,10 +1,10 @@
 -- More laws applied to the graphs where n (n a) and n (n b) are found alike by congruence.
 use Rattle.std.proofs.Common.{◌≡◌, ℕ, ◌<◌, List, [], Some, false, refl, arith}
 use Rattle.std.specs.Prelude.{◌↔◌, Contains}
+use Rattle.slotted_lists.proofs.Contained.{Contains-nil}
 use Rattle.slotted_theory.specs.Nameless.{DTerm, stop, moved}
 use Rattle.slotted_theory.specs.FiniteMaps.{filled}
 use Rattle.slotted_theory.specs.Derives.{Equal}
-use Rattle.slotted_theory.proofs.Lists.{Contains-nil}
 use Rattle.slotted_theory.proofs.Values.{node}
 use Rattle.slotted_model.specs.Applied.{Applied}
 use Rattle.slotted_model.specs.Classes.{term_of, IsFull}

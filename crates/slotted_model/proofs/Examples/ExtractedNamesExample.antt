@@ -1,9 +1,9 @@
 -- A tree with a name from outside under a binder is extracted, and so it is for the id with another name; and of two rows of one cost the first in an order is in the table.
 use Rattle.std.proofs.Common.{◌≡◌, ℕ, List, [], ◌∷◌, refl, ap, arith}
+use Rattle.slotted_lists.proofs.Contained.{contains_head, contains_tail}
 use Rattle.slotted_theory.specs.Nameless.{DTerm, stop, place, scope}
 use Rattle.slotted_theory.specs.Renaming.{swapped}
 use Rattle.slotted_theory.proofs.Bijections.{swap, to-injective}
-use Rattle.slotted_theory.proofs.Lists.{contains_head, contains_tail}
 use Rattle.slotted_theory.proofs.Values.{node, child_before}
 use Rattle.slotted_model.specs.Classes.{IsFull}
 use Rattle.slotted_model.specs.Cost.{CostFunction, limited_size}

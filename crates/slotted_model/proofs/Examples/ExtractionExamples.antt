@@ -2,10 +2,11 @@
 use Rattle.std.proofs.Common.{◌≡◌, ℕ, zero, suc, ◌<◌, ◌≤◌, List, [], ◌∷◌, Some, refl, sym, ap, subst, arith, inl, inr}
 use Rattle.std.specs.Prelude.{Contains}
 use Rattle.std.proofs.lemmas.Bool.{leb-true, false≢true}
+use Rattle.slotted_lists.proofs.Contained.{contains_head, contains_tail, contains_cases, Contains-nil}
+use Rattle.slotted_lists.proofs.Options.{Some-same}
 use Rattle.slotted_theory.specs.Nameless.{DTerm, stop}
 use Rattle.slotted_theory.specs.Shape.{shape}
 use Rattle.slotted_theory.specs.Derives.{Equal}
-use Rattle.slotted_theory.proofs.Lists.{contains_head, contains_tail, contains_cases, Contains-nil}
 use Rattle.slotted_theory.proofs.Values.{node, child_before}
 use Rattle.slotted_model.specs.Applied.{Applied, as_term}
 use Rattle.slotted_model.specs.Classes.{canonical_node, term_of, IsFull}
@@ -26,7 +27,7 @@ use Rattle.slotted_model.proofs.Finds.Uniting.{linked-alike}
 use Rattle.slotted_model.proofs.Rebuilding.UpTo.{linked_to-same}
 use Rattle.slotted_model.proofs.Complete.Spreading.{is_affected-iff}
 use Rattle.slotted_model.proofs.Finds.Keeping.{nothing-sound, new_class-sound, entered-sound, link-sound}
-use Rattle.slotted_model.proofs.Data.Options.{Some-same, None-Some}
+use Rattle.slotted_model.proofs.Data.Options.{None-Some}
 use Rattle.slotted_model.proofs.Examples.CompletenessExamples.{one_of}
 use Rattle.slotted_model.proofs.LeastTerms.Optimal.{finished-fits}
 use Rattle.slotted_model.proofs.LeastTerms.Sizes.{size-lawful}

@@ -1,8 +1,8 @@
 -- A class is made of a node whose normal form is filed already: where the word b is united with a, n b joins the row of n a.
 use Rattle.std.proofs.Common.{◌≡◌, ℕ, zero, suc, ◌<◌, [], ◌∷◌, ◌++◌, Some, get_or, refl, sym, ap, subst, arith}
+use Rattle.slotted_lists.proofs.Contained.{contains_head, Contains-nil}
 use Rattle.slotted_theory.specs.Nameless.{DTerm}
 use Rattle.slotted_theory.specs.Shape.{shape}
-use Rattle.slotted_theory.proofs.Lists.{contains_head, Contains-nil}
 use Rattle.slotted_model.specs.Classes.{canonical_node, IsFull}
 use Rattle.slotted_model.specs.Growth.{IsNew}
 use Rattle.slotted_model.specs.Link.{CanEnter}

@@ -1,7 +1,7 @@
 -- Explicit leaves in a small graph: where a = b and b = c are asserted, the entry that turns a = b round rests on the first alone.
 use Rattle.std.proofs.Common.{◌≡◌, ℕ, List, [], ◌∷◌, ◌++◌, inl, inr, sym, refl, subst, arith}
 use Rattle.std.specs.Prelude.{Contains}
-use Rattle.slotted_theory.proofs.Lists.{contains_head, contains_cases, Contains-nil}
+use Rattle.slotted_lists.proofs.Contained.{contains_head, contains_cases, Contains-nil}
 use Rattle.slotted_model.specs.ProofList.{ProofEntry, symmetric, HoldsFrom, Proved, equation_at, term_pair}
 use Rattle.slotted_model.specs.Leaves.{IsLeaf}
 use Rattle.slotted_model.specs.Link.{CanEnter}

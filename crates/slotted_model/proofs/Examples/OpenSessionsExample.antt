@@ -2,10 +2,10 @@
 -- of the two terms app (h x y) x and app (h y x) x. There these are one class, and in the other graph two.
 use Rattle.std.proofs.Common.{◌≡◌, ◌≢◌, ℕ, zero, suc, ◌<◌, List, [], ◌∷◌, get_or, refl, ap, sym, subst, arith, inl, inr, ◌⊎◌}
 use Rattle.std.specs.Prelude.{Contains}
+use Rattle.slotted_lists.proofs.Contained.{contains_head, contains_tail, contains_cases, Contains-nil}
 use Rattle.slotted_theory.specs.Nameless.{DTerm, stop, place}
 use Rattle.slotted_theory.specs.Shape.{shape}
 use Rattle.slotted_theory.specs.Derives.{Equal, listed as from_list, reflexive, within, equal_child, equal_name, equal_done}
-use Rattle.slotted_theory.proofs.Lists.{contains_head, contains_tail, contains_cases, Contains-nil}
 use Rattle.slotted_theory.proofs.Values.{node, child_before}
 use Rattle.slotted_model.specs.Applied.{Applied, as_term}
 use Rattle.slotted_model.specs.Classes.{canonical_node, IsFull}

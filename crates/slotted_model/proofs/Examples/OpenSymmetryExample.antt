@@ -1,11 +1,12 @@
 -- A graph at rest with an open symmetry: equal terms whose ids do not find alike, so both find affected classes.
 use Rattle.std.proofs.Common.{◌≡◌, ℕ, zero, suc, ◌+◌, ◌<◌, List, [], ◌∷◌, get_or, refl, sym, ◌∙◌, ap, subst, arith, inl, inr, ◌⊎◌}
 use Rattle.std.specs.Prelude.{Contains}
+use Rattle.slotted_lists.proofs.Contained.{contains_head, contains_tail, contains_cases, Contains-nil}
+use Rattle.slotted_lists.proofs.Members.{In-Contains}
 use Rattle.slotted_theory.specs.Nameless.{DTerm, stop, place}
 use Rattle.slotted_theory.specs.FiniteMaps.{filled}
 use Rattle.slotted_theory.specs.Derives.{Equal, listed as from_list, moving}
 use Rattle.slotted_theory.proofs.Filled.{filled-injective}
-use Rattle.slotted_theory.proofs.Lists.{contains_head, contains_tail, contains_cases, Contains-nil}
 use Rattle.slotted_theory.proofs.Values.{node}
 use Rattle.slotted_model.specs.Applied.{Applied, keys, map_on, renamed_id}
 use Rattle.slotted_model.specs.Classes.{canonical_slots, term_of, IsFull}
@@ -17,7 +18,6 @@ use Rattle.slotted_model.specs.Link.{CanEnter}
 use Rattle.slotted_model.specs.Sound.{Sound}
 use Rattle.slotted_model.specs.State.{Row, Symmetry, State, left_of, right_of, sources}
 use Rattle.slotted_model.specs.Rest.{UpToSymmetries, listed, LinkedTo, IsRow, IsCurrent, IsListed, IsAligned, AtRest, IsAffected}
-use Rattle.slotted_model.proofs.Data.Members.{In-Contains}
 use Rattle.slotted_model.proofs.Data.Maps.{map_on-filled, filled-pair}
 use Rattle.slotted_model.proofs.Represented.Full.{full-ascending}
 use Rattle.slotted_model.proofs.Represented.Growing.{added, Canonical-nil}
@@ -26,6 +26,7 @@ use Rattle.slotted_model.proofs.Correspondences.FullMaps.{same_names-over}
 use Rattle.slotted_model.proofs.Rebuilding.UpTo.{linked_to-same}
 use Rattle.slotted_model.proofs.Complete.Spreading.{is_affected-iff}
 use Rattle.slotted_model.proofs.Examples.CompletenessExamples.{one_of}
+use Rattle.slotted_model.proofs.Examples.TurnExamples.{both_slots}
 
 -- h x y, which is asserted to be h y x
 abbrev h_x_y : DTerm
@@ -69,10 +70,6 @@ two_of P x y p q w c = elim (contains_cases x (y ∷ []) w c) [
   | inl e ↦ subst P (sym e) p
   | inr k ↦ subst P (sym (one_of k)) q
 ]
-
--- both slots are there, in either order
-either_order : (s : ℕ) → Contains (0 ∷ 1 ∷ []) s → Contains (1 ∷ 0 ∷ []) s
-either_order = two_of (Contains (1 ∷ 0 ∷ [])) 0 1 (contains_tail 1 (0 ∷ []) 0 (contains_head 0 [])) (contains_head 1 (0 ∷ []))
 
 exchanged-partial : IsPartialInjection (0 ∷ 1 ∷ []) (0 ∷ 1 ∷ []) exchanged
 exchanged-partial = record {
@@ -121,7 +118,7 @@ is_listed = record {
   within = λ s c. c;
   bijection = exchanged-partial;
   total = refl;
-  onto = either_order;
+  onto = both_slots;
   moves = λ e. let n : ◌≡◌ {A = ℕ} 1 0 = ap (λ (m : List (ℕ × ℕ)). (get_or m 0 (0, 0)).1) e in omega arith;
   proof = omega arith;
   exact = refl;

@@ -2,8 +2,9 @@
 use Rattle.std.proofs.Common.{◌≡◌, ℕ, ◌≤◌, List, [], ◌∷◌, cond, refl, ap, sym, ◌∙◌, subst, arith}
 use Rattle.std.specs.Prelude.{IsTrue, leb}
 use Rattle.std.proofs.lemmas.Bool.{leb-true}
+use Rattle.slotted_lists.proofs.Contained.{contains_head, contains_tail, Contains-nil}
+use Rattle.slotted_lists.proofs.Options.{Some-same}
 use Rattle.slotted_theory.specs.Nameless.{DTerm, stop}
-use Rattle.slotted_theory.proofs.Lists.{contains_head, contains_tail, Contains-nil}
 use Rattle.slotted_theory.proofs.Values.{node, child_before}
 use Rattle.slotted_model.specs.State.{Row}
 use Rattle.slotted_model.specs.Cost.{CostFunction, AtMost, IsLawfulOn, IsLawful, limited_size}
@@ -11,7 +12,7 @@ use Rattle.slotted_model.specs.Extraction.{IsLawfulFor, IsCandidate, cost_in, ro
 use Rattle.slotted_model.proofs.Examples.CompletenessExamples.{graph, row_f, row_g, row_lam, one_of, three_of}
 use Rattle.slotted_model.proofs.Examples.ExtractedNamesExample.{k, entry_g, entry_lam, table, in_order}
 use Rattle.slotted_model.proofs.LeastTerms.KnownCosts.{lawful-for, lawful-everywhere}
-use Rattle.slotted_model.proofs.Data.Options.{Some-same, None-Some}
+use Rattle.slotted_model.proofs.Data.Options.{None-Some}
 use Rattle.slotted_model.proofs.LeastTerms.Sizes.{size-lawful}
 use Rattle.slotted_model.proofs.LeastTerms.Ties.{first-of_ties}
 

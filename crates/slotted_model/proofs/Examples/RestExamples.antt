@@ -1,9 +1,9 @@
 -- Small graphs at rest, made and asserted step by step, and what is looked up in them, computed.
 use Rattle.std.proofs.Common.{◌≡◌, ◌≢◌, ℕ, zero, suc, ◌<◌, List, [], ◌∷◌, Some, None, length, get_or, refl, sym, ◌∙◌, ap, subst, inl, inr, arith}
 use Rattle.std.specs.Prelude.{Contains}
+use Rattle.slotted_lists.proofs.Contained.{contains_head, contains_tail, contains_cases, Contains-nil}
 use Rattle.slotted_theory.specs.Nameless.{DTerm, stop, place}
 use Rattle.slotted_theory.specs.Shape.{shape}
-use Rattle.slotted_theory.proofs.Lists.{contains_head, contains_tail, contains_cases, Contains-nil}
 use Rattle.slotted_theory.proofs.Values.{node}
 use Rattle.slotted_model.specs.Applied.{Applied}
 use Rattle.slotted_model.specs.Classes.{canonical_node, IsFull}
@@ -192,7 +192,7 @@ symmetry = record { class = 0; slots = 0 ∷ 1 ∷ []; pairs = (0, 1) ∷ (1, 0)
 f_listed : symmetric_f.symmetries ≡ symmetry ∷ []
 f_listed = refl
 
-both_slots : (xs : List ℕ) → Contains xs 0 → Contains xs 1 → (s : ℕ) → Contains (0 ∷ 1 ∷ []) s → Contains xs s
+pub both_slots : (xs : List ℕ) → Contains xs 0 → Contains xs 1 → (s : ℕ) → Contains (0 ∷ 1 ∷ []) s → Contains xs s
 both_slots xs a b s c = elim (contains_cases 0 (1 ∷ []) s c) [
   | inl e ↦ subst (Contains xs) (sym e) a
   | inr k ↦ elim (contains_cases 1 [] s k) [

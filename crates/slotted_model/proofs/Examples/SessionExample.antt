@@ -6,9 +6,9 @@ use Rattle.slotted_theory.specs.Nameless.{DTerm, stop, place}
 use Rattle.slotted_theory.specs.Shape.{shape}
 use Rattle.slotted_theory.specs.Derives.{Equal, listed, turned, reflexive, within, moving, equal_child, equal_done}
 use Rattle.std.proofs.lemmas.Bool.{leb-true}
+use Rattle.slotted_lists.proofs.Contained.{contains_head, contains_tail, contains_cases, Contains-nil}
 use Rattle.slotted_theory.specs.Renaming.{swapped}
 use Rattle.slotted_theory.proofs.Bijections.{swap, to-injective}
-use Rattle.slotted_theory.proofs.Lists.{contains_head, contains_tail, contains_cases, Contains-nil}
 use Rattle.slotted_theory.proofs.Values.{node, child_before}
 use Rattle.slotted_model.specs.Applied.{Applied, as_term}
 use Rattle.slotted_model.specs.Classes.{canonical_node, IsFull}

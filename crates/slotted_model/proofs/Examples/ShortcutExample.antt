@@ -1,7 +1,7 @@
 -- A shortcut on a small graph at rest: a dead class that leads to what it finds by way of another leads there at once, and no answer changes.
 use Rattle.std.proofs.Common.{◌≡◌, ℕ, zero, suc, ◌<◌, [], ◌∷◌, ◌++◌, refl, arith}
+use Rattle.slotted_lists.proofs.Contained.{Contains-nil}
 use Rattle.slotted_theory.specs.Nameless.{stop}
-use Rattle.slotted_theory.proofs.Lists.{Contains-nil}
 use Rattle.slotted_theory.proofs.Values.{node}
 use Rattle.slotted_model.specs.Classes.{IsFull}
 use Rattle.slotted_model.specs.Find.{entry_at}

@@ -1,8 +1,8 @@
 -- The laws of congruences by finds and of changes that do not end at rest applied to small graphs, and the kinds of step that no other example takes.
 use Rattle.std.proofs.Common.{◌≡◌, ◌≢◌, ℕ, zero, suc, ◌<◌, [], ◌∷◌, ◌⊎◌, inl, inr, length, get_or, refl, ap, arith}
 use Rattle.std.specs.Prelude.{Contains, IsTrue}
+use Rattle.slotted_lists.proofs.Contained.{contains_head, contains_tail, Contains-nil}
 use Rattle.slotted_theory.specs.Nameless.{stop, place}
-use Rattle.slotted_theory.proofs.Lists.{contains_head, contains_tail, Contains-nil}
 use Rattle.slotted_theory.proofs.Values.{node, child_before}
 use Rattle.slotted_model.specs.Correspondence.{AllDifferent}
 use Rattle.slotted_model.specs.Applied.{Applied, as_term}

@@ -2,9 +2,10 @@
 use Rattle.std.proofs.Common.{◌≡◌, ℕ, ◌<◌, List, [], ◌∷◌, ◌++◌, sym, ◌∙◌, ap, refl, subst, inl, inr, arith}
 use Rattle.std.specs.Prelude.{Contains}
 use Rattle.std.proofs.lemmas.List.Elements.{Contains-append_cases}
+use Rattle.slotted_lists.proofs.Contained.{contains_cases, Contains-nil}
+use Rattle.slotted_lists.proofs.Members.{In, In-left, In-right, In-append, In-Contains, Contains-In}
 use Rattle.slotted_theory.specs.Nameless.{DArgs, DTerm, stop, place, sub, scope, lift, moved, moved_args}
 use Rattle.slotted_theory.specs.Shape.{outside, free_names}
-use Rattle.slotted_theory.proofs.Lists.{contains_cases, Contains-nil}
 use Rattle.slotted_theory.proofs.Values.{node, child_before}
 use Rattle.slotted_model.specs.Applied.{Applied, values, renamed_id, in_places, as_term, applied_of, IsApplied, EachChild}
 use Rattle.slotted_model.specs.Classes.{IsFull, Canonical}
@@ -13,7 +14,7 @@ use Rattle.slotted_model.specs.Filling.{IsValid}
 use Rattle.slotted_model.specs.Link.{Refines}
 use Rattle.slotted_model.specs.ProofList.{Equation, equation_of, AreCongruent, no_more, one_name, one_child, one_binder, node_of}
 use Rattle.slotted_model.specs.Normal.{normal_args, normal, IsOfFoundAlike, IsCongruentByFinds, IsFound}
-use Rattle.slotted_model.proofs.Data.Members.{In, In-left, In-right, In-append, In-outside, In-inside, In-Contains, Contains-In}
+use Rattle.slotted_model.proofs.Data.Members.{In-outside, In-inside}
 use Rattle.slotted_model.proofs.Data.Parts.{kind, first_name, first_child, first_scope, after_first}
 use Rattle.slotted_model.proofs.Represented.Children.{zip-places, EachChild-map, moved-as_term}
 use Rattle.slotted_model.proofs.Represented.Full.{full-children}

@@ -1,23 +1,18 @@
 -- A new entry of the proof list leaves the earlier ones as they are.
 use Rattle.std.proofs.Common.{◌≡◌, ℕ, suc, ◌+◌, ◌<◌, List, [], ◌∷◌, ◌++◌, length, sym, ◌∙◌, ap, refl, subst, inl, inr, arith, length-append}
-use Rattle.std.specs.Prelude.{Contains, map, Option, Some, None, ◌⊎◌}
+use Rattle.std.specs.Prelude.{Option, Some, None, ◌⊎◌}
 use Rattle.std.specs.List.{cons_option}
 use Rattle.std.proofs.lemmas.Bool.{cases_eq}
 use Rattle.std.proofs.lemmas.List.{get_or_append_left}
 use Rattle.std.proofs.Math.Seq.{get_or-append_seam}
+use Rattle.slotted_lists.proofs.Contained.{map-agree}
 use Rattle.slotted_theory.specs.Nameless.{DTerm}
-use Rattle.slotted_theory.proofs.Lists.{contains_head, contains_tail}
 use Rattle.slotted_model.specs.Find.{Entry, entry_at}
 use Rattle.slotted_model.specs.ProofList.{Equation, Step, ProofEntry, explicit, reflexive, symmetric, transitive, congruent, IsOver, IsTransitive, IsSymmetric, IsCongruent, equation_at, step_at, IsStepFor, Proved, term_pair, if_explicit, asserted, Exact}
 use Rattle.slotted_model.specs.Link.{CanEnter}
 
 abbrev pub no_proof : ProofEntry
 no_proof = record { equation = record { left = 0; right = 0; pairs = [] }; step = explicit }
-
--- functions that agree on a list map it alike
-map-agree : {X Y : Type 0} (f g : X → Y) (xs : List X) → ((x : X) → Contains xs x → f x ≡ g x) → map f xs ≡ map g xs
-map-agree f g [] h = refl
-map-agree f g (x ∷ xs) h = λ i. h x (contains_head x xs) i ∷ map-agree f g xs (λ y c. h y (contains_tail x xs y c)) i
 
 -- a step stays what it was where its parts do
 pub IsStepFor-agree : (nodes : List DTerm) (older newer : List ProofEntry) (p : ℕ) (e : Equation) (s : Step) → ((q : ℕ) → q < p → equation_at newer q ≡ equation_at older q) → IsStepFor nodes older p e s → IsStepFor nodes newer p e s

@@ -1,6 +1,7 @@
 -- Find proofs: what a find says is proved along its entries, and two ids that find alike are joined by one transitive step.
-use Rattle.std.proofs.Common.{◌≡◌, ℕ, zero, suc, ◌<◌, List, [], ◌∷◌, length, sym, ◌∙◌, ap, refl, subst, arith, get_or}
+use Rattle.std.proofs.Common.{◌≡◌, ℕ, ◌<◌, List, [], length, sym, ◌∙◌, ap, refl, subst, get_or}
 use Rattle.std.specs.Prelude.{Contains, map}
+use Rattle.slotted_lists.proofs.Contained.{Contains-get_or}
 use Rattle.slotted_theory.specs.Term.{Term}
 use Rattle.slotted_theory.specs.Nameless.{DTerm, nameless}
 use Rattle.slotted_theory.specs.Derives.{Derives, Equal, listed, nameless_pair}
@@ -39,12 +40,6 @@ sides-equation nodes e o = λ i. record { left = e.left; right = e.right; pairs 
 pub listed-holds : (E : List (DTerm × DTerm)) (nodes : List DTerm) → Canonical nodes → (e : Equation) → IsOver nodes e → Contains E (term_pair nodes e) → HoldsFrom E nodes e
 listed-holds E nodes can e o c = one_is_enough E nodes can e (left_side nodes e) (right_side nodes e) (left_side-full nodes e o) (right_side-full nodes e o) (sides-equation nodes e o) (listed c)
 
--- an element at an index
-contains-get_or : {X : Type 0} (xs : List X) (k : ℕ) (d : X) → k < length xs → Contains xs (get_or xs k d)
-contains-get_or [] k d h = absurd (omega arith)
-contains-get_or (x ∷ xs) zero d h = (0, omega arith, refl)
-contains-get_or (x ∷ xs) (suc k) d h = let c : Contains xs (get_or xs k d) = contains-get_or xs k d (omega arith) in (suc c.0, omega (arith, c.1), c.2)
-
 -- each entry of a proved list holds, if the explicit ones do
 pub entry-holds : (E : List (DTerm × DTerm)) (nodes : List DTerm) → Canonical nodes → (proofs : List ProofEntry) → Proved nodes proofs → ((p : ℕ) → p < length proofs → step_at proofs p ≡ explicit → HoldsFrom E nodes (equation_at proofs p)) → (p : ℕ) → p < length proofs → HoldsFrom E nodes (equation_at proofs p)
 entry-holds E nodes can proofs proved explicit_hold p h = leaves-hold E nodes can proofs proved p h (λ q l. explicit_hold q (leaf-explicit l).0 (leaf-explicit l).1)
@@ -59,7 +54,7 @@ asserted-contains nodes proofs p h e =
     Contains-filter_map (λ (entry : ProofEntry). if_explicit entry.step (term_pair nodes entry.equation)) proofs
     (get_or proofs p (record { equation = record { left = 0; right = 0; pairs = [] }; step = explicit }))
     (term_pair nodes (equation_at proofs p))
-    (contains-get_or proofs p (record { equation = record { left = 0; right = 0; pairs = [] }; step = explicit }) h)
+    (Contains-get_or proofs p (record { equation = record { left = 0; right = 0; pairs = [] }; step = explicit }) h)
     (ap (λ s. if_explicit s (term_pair nodes (equation_at proofs p))) e)
 
 -- so the asserted list has the leaves of each entry

@@ -1,8 +1,10 @@
 -- Applied ids in normal form.
-use Rattle.std.proofs.Common.{◌≡◌, ℕ, ◌<◌, List, [], ◌∷◌, Option, Some, None, Bool, true, false, length, sym, ◌∙◌, ap, refl, subst}
-use Rattle.std.specs.Prelude.{Contains, option_map, cond, nat_eq}
+use Rattle.std.proofs.Common.{◌≡◌, ℕ, ◌<◌, List, [], ◌∷◌, length, sym, ◌∙◌, ap, refl, subst}
+use Rattle.std.specs.Prelude.{Contains, option_map}
 use Rattle.std.specs.List.{cons_option}
 use Rattle.std.specs.Map.{keys_of, values_of}
+use Rattle.slotted_lists.proofs.Members.{In-Contains, Contains-In}
+use Rattle.slotted_lists.proofs.Maps.{value_of-with_values, cons_option-with_values}
 use Rattle.slotted_theory.specs.Nameless.{DTerm}
 use Rattle.slotted_theory.specs.FiniteMaps.{value_of, with_values}
 use Rattle.slotted_model.specs.Ascending.{IsAscending, ascending}
@@ -11,7 +13,6 @@ use Rattle.slotted_model.specs.Classes.{canonical_slots, IsFull}
 use Rattle.slotted_model.specs.Correspondence.{IsFullMap, composite, identity}
 use Rattle.slotted_model.specs.Filling.{IsValid, IsFilling}
 use Rattle.slotted_model.specs.Find.{Entry, entry_at, IsLive, find_class, find_map, used_slots, find, Linked}
-use Rattle.slotted_model.proofs.Data.Members.{In-Contains, Contains-In}
 use Rattle.slotted_model.proofs.Data.Sets.{IsAscending-ascending, In-ascending, In-of_ascending, same_members}
 use Rattle.slotted_model.proofs.Represented.Full.{full-ascending}
 use Rattle.slotted_model.proofs.Correspondences.Pairs.{Contains-value, Contains-of_key, Contains-of_value}
@@ -39,19 +40,6 @@ Contains-ascending S s c = Contains-In (ascending S) s (In-ascending s S (In-Con
 
 pub Contains-of_ascending : (S : List ℕ) (s : ℕ) → Contains (ascending S) s → Contains S s
 Contains-of_ascending S s c = Contains-In S s (In-of_ascending s S (In-Contains (ascending S) s c))
-
--- the maps of applied ids with other names
-cond-map : (f : ℕ → ℕ) (b : Bool) (x : ℕ) (o : Option ℕ) → cond b (Some (f x)) (option_map f o) ≡ option_map f (cond b (Some x) o)
-cond-map f true x o = refl
-cond-map f false x o = refl
-
-value_of-with_values : (f : ℕ → ℕ) (m : List (ℕ × ℕ)) (s : ℕ) → value_of (with_values f m) s ≡ option_map f (value_of m s)
-value_of-with_values f [] s = refl
-value_of-with_values f (p ∷ m) s = ap (cond (nat_eq s p.0) (Some (f p.1))) (value_of-with_values f m s) ∙ cond-map f (nat_eq s p.0) p.1 (value_of m s)
-
-cons_option-with_values : (f : ℕ → ℕ) (s : ℕ) (o : Option ℕ) (A : List (ℕ × ℕ)) → cons_option (option_map (λ u. (s, u)) (option_map f o)) (with_values f A) ≡ with_values f (cons_option (option_map (λ u. (s, u)) o) A)
-cons_option-with_values f s None A = refl
-cons_option-with_values f s (Some u) A = refl
 
 pub composite-with_values : (f : ℕ → ℕ) (A m : List (ℕ × ℕ)) → composite A (with_values f m) ≡ with_values f (composite A m)
 composite-with_values f [] m = refl

@@ -2,13 +2,13 @@
 use Rattle.std.proofs.Common.{◌≡◌, ℕ, List, sym, ◌∙◌, ap, refl, subst}
 use Rattle.std.specs.Prelude.{Contains}
 use Rattle.std.proofs.lemmas.List.Elements.{Contains-append_left, Contains-append_right}
+use Rattle.slotted_lists.proofs.Contained.{contains_head, contains_tail}
 use Rattle.slotted_theory.specs.Nameless.{DArgs, DTerm}
 use Rattle.slotted_theory.specs.Derives.{Equal, joined, within, moving, EqualArgs, equal_done, equal_name, equal_child, equal_bind}
 use Rattle.slotted_theory.specs.Derives.{turned as the_other_way}
 use Rattle.slotted_theory.specs.Renaming.{Bijection}
 use Rattle.slotted_theory.proofs.Bijections.{to-injective}
 use Rattle.slotted_theory.proofs.Equals.{Equal-from_path}
-use Rattle.slotted_theory.proofs.Lists.{contains_head, contains_tail}
 use Rattle.slotted_theory.proofs.Values.{node, expand_args, expand}
 use Rattle.slotted_theory.specs.FiniteMaps.{with_values}
 use Rattle.slotted_model.specs.Applied.{Applied, as_term, renamed_id}

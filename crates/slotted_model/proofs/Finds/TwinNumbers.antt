@@ -2,6 +2,7 @@
 use Rattle.std.proofs.Common.{◌≡◌, ◌↔◌, ℕ, List, get_or, sym, ◌∙◌, ap, refl, subst}
 use Rattle.std.specs.Prelude.{Contains, map}
 use Rattle.std.specs.Map.{keys_of, values_of}
+use Rattle.slotted_lists.proofs.Members.{In-Contains, Contains-In}
 use Rattle.slotted_theory.specs.Nameless.{DTerm, moved}
 use Rattle.slotted_theory.specs.Renaming.{Bijection}
 use Rattle.slotted_theory.specs.FiniteMaps.{filled, with_values}
@@ -16,7 +17,6 @@ use Rattle.slotted_model.specs.Correspondence.{IsFullMap, same_names}
 use Rattle.slotted_model.specs.Find.{Entry}
 use Rattle.slotted_model.specs.ProofList.{Equation, equation_of}
 use Rattle.slotted_model.specs.Normal.{normal, HasNormalTwin, HasOneNumber}
-use Rattle.slotted_model.proofs.Data.Members.{In-Contains, Contains-In}
 use Rattle.slotted_model.proofs.Data.Theory.{free_names-moved, get_or-number_in}
 use Rattle.slotted_model.proofs.Data.Maps.{filled-pair}
 use Rattle.slotted_model.proofs.Represented.Full.{full-ascending, full-renamed}

@@ -2,12 +2,13 @@
 use Rattle.std.proofs.Common.{◌≡◌, ℕ, ◌<◌, List, [], length, sym, ◌∙◌, ap, refl, subst}
 use Rattle.std.specs.Prelude.{Contains, map, ◌⊎◌}
 use Rattle.std.specs.Map.{keys_of, values_of}
+use Rattle.slotted_lists.proofs.Contained.{Contains-map, Contains-of_map}
+use Rattle.slotted_lists.proofs.Members.{In, In-Contains, Contains-In, In-of_map, In-map}
 use Rattle.slotted_theory.specs.Nameless.{DTerm, moved}
 use Rattle.slotted_theory.specs.Renaming.{Bijection}
 use Rattle.slotted_theory.specs.FiniteMaps.{value_of, filled}
 use Rattle.slotted_theory.specs.Shape.{free_names, shape, SameUpToNames}
 use Rattle.slotted_theory.proofs.Bijections.{to-injective}
-use Rattle.slotted_theory.proofs.Lists.{Contains-map, Contains-of_map}
 use Rattle.slotted_theory.proofs.Shapes.{shape_iff}
 use Rattle.slotted_model.specs.Ascending.{names}
 use Rattle.slotted_model.specs.Applied.{Applied, map_on}
@@ -16,7 +17,6 @@ use Rattle.slotted_model.specs.Correspondence.{IsFullMap, pairs_on, same_names, 
 use Rattle.slotted_model.specs.Find.{Entry, Linked}
 use Rattle.slotted_model.specs.ProofList.{Equation, ProofEntry, HoldsFrom, node_of, Proved, asserted, Exact}
 use Rattle.slotted_model.specs.Normal.{normal, IsOfFoundAlike, IsCongruentByFinds, HasNormalTwin}
-use Rattle.slotted_model.proofs.Data.Members.{In, In-Contains, Contains-In, In-of_map, In-map}
 use Rattle.slotted_model.proofs.Data.Sets.{In-ascending, In-of_ascending}
 use Rattle.slotted_model.proofs.Data.Theory.{moved-agrees, moved-moved, free_names-moved}
 use Rattle.slotted_model.proofs.Data.Maps.{filled-pair}

@@ -1,5 +1,6 @@
 -- Graphs that agree give the same costs to ids that correspond.
 use Rattle.std.proofs.Common.{◌≡◌, List, Some, sym, ◌∙◌, subst}
+use Rattle.slotted_lists.proofs.Options.{Some-same}
 use Rattle.slotted_theory.specs.Nameless.{DTerm}
 use Rattle.slotted_model.specs.Applied.{Applied}
 use Rattle.slotted_model.specs.Agreement.{Correspond, Agree}
@@ -10,7 +11,6 @@ use Rattle.slotted_model.specs.Rest.{IsValidIn, AtRest}
 use Rattle.slotted_model.specs.Trees.{IsTree}
 use Rattle.slotted_model.specs.Cost.{CostFunction, AtMost, tree_cost}
 use Rattle.slotted_model.specs.Extraction.{IsLawfulFor, TableEntry, cost_in, Fits, Extracts}
-use Rattle.slotted_model.proofs.Data.Options.{Some-same}
 use Rattle.slotted_model.proofs.Finds.NormalIds.{full-is_valid}
 use Rattle.slotted_model.proofs.LeastTerms.Optimal.{CostOfFound, tree-at_most}
 use Rattle.slotted_model.proofs.LeastTerms.Extracting.{extracts, extracted-tree, extracted-look_up, extracted-cost}

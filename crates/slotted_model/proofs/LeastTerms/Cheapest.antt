@@ -1,6 +1,7 @@
 -- What a fitting table extracts costs least: among the trees that are looked up as an id of the found class, the terms of such ids, and the trees that are equal to the id's term.
 use Rattle.std.proofs.Common.{◌≡◌, ℕ, ◌<◌, List, [], ◌∷◌, length, Some, sym, ◌∙◌, ap, subst, inl, inr}
 use Rattle.std.proofs.lemmas.Bool.{cases_eq}
+use Rattle.slotted_lists.proofs.Options.{Some-same}
 use Rattle.slotted_theory.specs.Nameless.{DTerm}
 use Rattle.slotted_theory.specs.Derives.{Equal}
 use Rattle.slotted_model.specs.Applied.{Applied}
@@ -18,7 +19,7 @@ use Rattle.slotted_model.proofs.Complete.AtRest.{rest-look_up}
 use Rattle.slotted_model.proofs.Finds.NormalIds.{filling-found, full-is_valid}
 use Rattle.slotted_model.proofs.Represented.Growing.{identity-full}
 use Rattle.slotted_model.proofs.Complete.LookUpsAreEqual.{found-equal}
-use Rattle.slotted_model.proofs.Data.Options.{Some-same, None-Some}
+use Rattle.slotted_model.proofs.Data.Options.{None-Some}
 use Rattle.slotted_model.proofs.LeastTerms.Tables.{cost-later}
 use Rattle.slotted_model.proofs.LeastTerms.Optimal.{CostOfFound, tree-at_most, term-at_most}
 use Rattle.slotted_model.proofs.LeastTerms.Extracting.{extracts, extracted-look_up, extracted-cost}

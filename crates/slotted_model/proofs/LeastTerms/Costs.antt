@@ -2,6 +2,7 @@
 use Rattle.std.proofs.Common.{◌≡◌, ℕ, ◌+◌, List, [], ◌∷◌, ◌++◌, Option, Some, length, sym, ◌∙◌, ap, refl, arith}
 use Rattle.std.specs.Prelude.{option_and_then}
 use Rattle.std.proofs.lemmas.List.{length-append}
+use Rattle.slotted_lists.proofs.Options.{Some-same}
 use Rattle.slotted_theory.specs.Nameless.{DArgs, DTerm, stop, place, sub, scope, lift, moved, moved_args}
 use Rattle.slotted_theory.specs.Renaming.{IsInjective}
 use Rattle.slotted_theory.specs.Shape.{shape}
@@ -13,7 +14,7 @@ use Rattle.slotted_model.specs.Find.{Entry}
 use Rattle.slotted_model.specs.Normal.{normal_args}
 use Rattle.slotted_model.specs.State.{child_classes}
 use Rattle.slotted_model.specs.Cost.{CostFunction, EachAtMost, child_count, null_children, without_children, AreAlike, child_costs}
-use Rattle.slotted_model.proofs.Data.Options.{option_map-some, both-some, Some-same}
+use Rattle.slotted_model.proofs.Data.Options.{option_map-some, both-some}
 
 null_children-moved : (f : ℕ → ℕ) (d : DArgs) → null_children (moved_args f d) ≡ moved_args f (null_children d)
 null_children-moved f stop = refl

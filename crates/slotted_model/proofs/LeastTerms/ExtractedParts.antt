@@ -1,9 +1,9 @@
 -- What is extracted moves with names, and is made by the entry of the found class.
 use Rattle.std.proofs.Common.{◌≡◌, ℕ, List, [], ◌∷◌, sym, ◌∙◌, ap, subst, inl, inr}
 use Rattle.std.specs.Prelude.{Contains}
+use Rattle.slotted_lists.proofs.Contained.{contains_cases, Contains-nil}
 use Rattle.slotted_theory.specs.Nameless.{DArgs, DTerm, lift, moved, moved_args}
 use Rattle.slotted_theory.specs.Renaming.{IsInjective}
-use Rattle.slotted_theory.proofs.Lists.{contains_cases, Contains-nil}
 use Rattle.slotted_theory.proofs.Names.{lift-injective}
 use Rattle.slotted_model.specs.Applied.{Applied, renamed_id}
 use Rattle.slotted_model.specs.Classes.{IsFull}

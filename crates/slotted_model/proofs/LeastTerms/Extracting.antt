@@ -3,12 +3,13 @@ use Rattle.std.proofs.Common.{◌≡◌, ℕ, List, [], ◌∷◌, Some, sym, �
 use Rattle.std.specs.Prelude.{Contains, option_map, option_and_then}
 use Rattle.std.proofs.lemmas.Bool.{cases_eq}
 use Rattle.std.proofs.lemmas.List.Elements.{Contains-append_left, Contains-append_right}
+use Rattle.slotted_lists.proofs.Contained.{contains_head, contains_tail}
+use Rattle.slotted_lists.proofs.Options.{Some-same}
 use Rattle.slotted_theory.specs.Nameless.{DArgs, DTerm, stop, place, sub, scope, moved}
 use Rattle.slotted_theory.specs.FiniteMaps.{filled}
 use Rattle.slotted_theory.specs.Renaming.{IsInjective}
 use Rattle.slotted_theory.specs.Shape.{shape}
 use Rattle.slotted_theory.proofs.Filled.{filled-injective}
-use Rattle.slotted_theory.proofs.Lists.{contains_head, contains_tail}
 use Rattle.slotted_theory.proofs.Values.{node, child_before}
 use Rattle.slotted_model.specs.Applied.{Applied, as_term, applied_of, EachChild}
 use Rattle.slotted_model.specs.Classes.{IsFull}
@@ -21,7 +22,7 @@ use Rattle.slotted_model.specs.Rest.{IsValidIn, AtRest}
 use Rattle.slotted_model.specs.Trees.{HasNoIds, IsTree}
 use Rattle.slotted_model.specs.Cost.{CostFunction, null_children, AreAlike, child_costs, tree_cost}
 use Rattle.slotted_model.specs.Extraction.{IsLawfulFor, TableEntry, cost_in, costs_in, IsInOrder, Extracts, by_entry, ExtractsArgs, no_more, own_name, extracted, under_binder}
-use Rattle.slotted_model.proofs.Data.Options.{option_map-some, Some-same, None-Some}
+use Rattle.slotted_model.proofs.Data.Options.{option_map-some, None-Some}
 use Rattle.slotted_model.proofs.Complete.AtRest.{normal-again}
 use Rattle.slotted_model.proofs.Represented.Children.{EachChild-map}
 use Rattle.slotted_model.proofs.Finds.Congruence.{child-applied}

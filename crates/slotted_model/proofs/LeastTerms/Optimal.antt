@@ -2,12 +2,13 @@
 use Rattle.std.proofs.Common.{◌≡◌, ℕ, zero, suc, ◌<◌, List, [], ◌∷◌, ◌++◌, Option, Some, None, length, sym, ◌∙◌, ap, refl, subst, arith, inl, inr}
 use Rattle.std.specs.Prelude.{Contains, option_map, option_and_then}
 use Rattle.std.proofs.lemmas.List.Elements.{Contains-append_cases}
+use Rattle.slotted_lists.proofs.Contained.{contains_cases, Contains-nil}
+use Rattle.slotted_lists.proofs.Options.{Some-same}
 use Rattle.slotted_theory.specs.Nameless.{DArgs, DTerm, stop, place, sub, scope}
 use Rattle.slotted_theory.specs.FiniteMaps.{filled}
 use Rattle.slotted_theory.specs.Shape.{free_names, number_in, shape}
 use Rattle.slotted_theory.proofs.Shapes.{number_in-injective}
 use Rattle.slotted_theory.proofs.Filled.{filled-injective}
-use Rattle.slotted_theory.proofs.Lists.{contains_cases, Contains-nil}
 use Rattle.slotted_theory.proofs.Values.{node, child_before, expand_args}
 use Rattle.slotted_model.specs.Applied.{Applied, as_term, applied_of, EachChild}
 use Rattle.slotted_model.specs.Classes.{stands, terms, canonical_node, term_of, IsFull}
@@ -20,7 +21,7 @@ use Rattle.slotted_model.specs.State.{Row, State, normal_node, row_of, source_wi
 use Rattle.slotted_model.specs.Rest.{AtRest, LookedUp}
 use Rattle.slotted_model.specs.Cost.{CostFunction, AtMost, EachAtMost, child_count, null_children, without_children, AreAlike, child_costs, tree_cost}
 use Rattle.slotted_model.specs.Extraction.{IsLawfulFor, TableEntry, cost_in, costs_in, row_cost, row_class, IsLeastFirst, IsFinished, Fits}
-use Rattle.slotted_model.proofs.Data.Options.{option_map-some, both-some, and_then-some, Some-same}
+use Rattle.slotted_model.proofs.Data.Options.{option_map-some, both-some, and_then-some}
 use Rattle.slotted_model.proofs.Represented.Children.{EachChild-map, expand-child}
 use Rattle.slotted_model.proofs.Finds.Congruence.{child-applied}
 use Rattle.slotted_model.proofs.Finds.Finding.{leads, found-in_range, found-live, find_class-live}

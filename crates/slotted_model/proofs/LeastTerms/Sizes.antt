@@ -4,8 +4,8 @@ use Rattle.std.specs.Prelude.{Contains, min, max, sum}
 use Rattle.std.proofs.lemmas.Bool.{le-leb, leb-true}
 use Rattle.std.proofs.lemmas.Bool.Decides.{leb_tells}
 use Rattle.std.proofs.lemmas.List.Sums.{sum_by-cons}
+use Rattle.slotted_lists.proofs.Contained.{contains_head, contains_tail, contains_cases, Contains-nil}
 use Rattle.slotted_theory.specs.Nameless.{DTerm}
-use Rattle.slotted_theory.proofs.Lists.{contains_head, contains_tail, contains_cases, Contains-nil}
 use Rattle.slotted_model.specs.Cost.{EachAtMost, IsLawful, IsTotal, dearest, limited_size}
 
 sum-first : (x : ℕ) (xs : List ℕ) → sum (x ∷ xs) ≡ x + sum xs

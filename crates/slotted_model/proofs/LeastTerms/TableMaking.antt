@@ -2,11 +2,12 @@
 use Rattle.std.proofs.Common.{◌≡◌, ℕ, zero, suc, ◌<◌, ◌≤◌, List, [], ◌∷◌, Option, Some, None, sym, ◌∙◌, ap, refl, subst, arith, inl, inr, ◌⊎◌}
 use Rattle.std.specs.Prelude.{◌≢◌, Contains, cond, is_some}
 use Rattle.std.proofs.lemmas.Bool.{cases_eq}
-use Rattle.slotted_theory.proofs.Lists.{contains_head, contains_tail, contains_cases, Contains-nil}
+use Rattle.slotted_lists.proofs.Contained.{contains_head, contains_tail, contains_cases, Contains-nil}
+use Rattle.slotted_lists.proofs.Options.{Some-same}
 use Rattle.slotted_model.specs.State.{Row, State}
 use Rattle.slotted_model.specs.Cost.{CostFunction, AtMost, IsTotal}
 use Rattle.slotted_model.specs.Extraction.{IsLawfulFor, TableEntry, cost_in, row_cost, row_class, IsCandidate, IsLeastFirst, IsFinished}
-use Rattle.slotted_model.proofs.Data.Options.{Some-same, None-Some}
+use Rattle.slotted_model.proofs.Data.Options.{None-Some}
 use Rattle.slotted_model.proofs.LeastTerms.Tables.{cost-here, cost-later}
 
 module _ {C : Type 0} (g : State) (k : CostFunction C) (law : IsLawfulFor C g k) (total : IsTotal k) where

@@ -2,12 +2,13 @@
 use Rattle.std.proofs.Common.{◌≡◌, ℕ, List, [], ◌∷◌, ◌++◌, Some, None, length, sym, ◌∙◌, ap, refl, subst, arith, inl, inr, ◌⊎◌}
 use Rattle.std.specs.Prelude.{◌≢◌, Contains, cond, option_map}
 use Rattle.std.proofs.lemmas.Bool.{cases_eq, eq-eqb, ne_eqb}
-use Rattle.slotted_theory.proofs.Lists.{contains_head, contains_tail, contains_cases, Contains-nil}
+use Rattle.slotted_lists.proofs.Contained.{contains_head, contains_tail, contains_cases, Contains-nil}
+use Rattle.slotted_lists.proofs.Options.{Some-same}
 use Rattle.slotted_model.specs.LookUp.{both}
 use Rattle.slotted_model.specs.State.{Row, State, child_classes}
 use Rattle.slotted_model.specs.Cost.{CostFunction, AtMost, child_count}
 use Rattle.slotted_model.specs.Extraction.{IsLawfulFor, TableEntry, cost_in, costs_in, row_cost, row_class, CanEnterTable, IsInOrder, IsLeastFirst}
-use Rattle.slotted_model.proofs.Data.Options.{option_map-some, both-some, Some-same, None-Some}
+use Rattle.slotted_model.proofs.Data.Options.{option_map-some, both-some, None-Some}
 use Rattle.slotted_model.proofs.LeastTerms.Costs.{child_classes-count}
 
 module _ {C : Type 0} where

@@ -1,11 +1,12 @@
 -- Where a class has rows of its cost over children that cost less, the table has the first of them.
 use Rattle.std.proofs.Common.{◌≡◌, ℕ, List, [], ◌∷◌, Some, None, sym, ◌∙◌, ap, refl, subst, inl, inr}
 use Rattle.std.specs.Prelude.{Contains, option_map}
-use Rattle.slotted_theory.proofs.Lists.{contains_cases, Contains-nil}
+use Rattle.slotted_lists.proofs.Contained.{contains_cases, Contains-nil}
+use Rattle.slotted_lists.proofs.Options.{Some-same}
 use Rattle.slotted_model.specs.State.{Row, State, child_classes}
 use Rattle.slotted_model.specs.Cost.{CostFunction, AtMost}
 use Rattle.slotted_model.specs.Extraction.{IsLawfulFor, TableEntry, cost_in, costs_in, row_cost, row_class, IsLeastFirst, HasCheaperChildren, HasTiesBroken}
-use Rattle.slotted_model.proofs.Data.Options.{option_map-some, Some-same}
+use Rattle.slotted_model.proofs.Data.Options.{option_map-some}
 use Rattle.slotted_model.proofs.LeastTerms.Tables.{cost-here, cost-kept, costs-each, entry-new, IsEntry, entry, least-in_order, never-falls}
 use Rattle.slotted_model.proofs.LeastTerms.Queues.{costs-asked}
 

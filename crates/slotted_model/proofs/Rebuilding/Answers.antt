@@ -1,6 +1,7 @@
 -- What look-ups answer at rest: what full ids find whose nodes have the same normal form.
 use Rattle.std.proofs.Common.{◌≡◌, ℕ, ◌<◌, List, Some, length, sym, ◌∙◌, ap, refl}
 use Rattle.std.specs.Prelude.{Contains}
+use Rattle.slotted_lists.proofs.Options.{Some-same}
 use Rattle.slotted_theory.specs.Nameless.{DTerm, moved}
 use Rattle.slotted_theory.specs.FiniteMaps.{filled}
 use Rattle.slotted_theory.specs.Shape.{free_names, shape, SameUpToNames}
@@ -18,7 +19,7 @@ use Rattle.slotted_model.proofs.Data.Sets.{In-ascending}
 use Rattle.slotted_model.proofs.Data.Theory.{moved-agrees, moved-id}
 use Rattle.slotted_model.proofs.Data.Maps.{filled-map_on}
 use Rattle.slotted_model.proofs.Represented.Full.{full-renamed}
-use Rattle.slotted_model.proofs.Data.Options.{Some-same, option_map-some}
+use Rattle.slotted_model.proofs.Data.Options.{option_map-some}
 use Rattle.slotted_model.proofs.Represented.RenamedIds.{normal-renamed}
 use Rattle.slotted_model.proofs.Rebuilding.UpTo.{identity-full}
 use Rattle.slotted_model.proofs.Rebuilding.Rows.{row_of-some, current-shape, current-look_up, rest-current}

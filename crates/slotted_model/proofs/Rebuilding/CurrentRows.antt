@@ -1,5 +1,6 @@
 -- A row that files the node of its source in normal form is the row by which the source is filed.
 use Rattle.std.proofs.Common.{◌≡◌, ℕ, sym, ◌∙◌, ap, subst}
+use Rattle.slotted_lists.proofs.Members.{In}
 use Rattle.slotted_theory.specs.Nameless.{DTerm}
 use Rattle.slotted_theory.specs.FiniteMaps.{filled}
 use Rattle.slotted_theory.specs.Shape.{free_names, shape}
@@ -11,7 +12,6 @@ use Rattle.slotted_model.specs.State.{Row, State, filed_node, normal_node, name_
 use Rattle.slotted_model.specs.Rest.{IsRow}
 use Rattle.slotted_model.specs.Rebuild.{row_for}
 use Rattle.slotted_model.proofs.Data.Maps.{map_on-agrees, map_on-filled}
-use Rattle.slotted_model.proofs.Data.Members.{In}
 use Rattle.slotted_model.proofs.Rebuilding.Rows.{name_numbered-moved, name_numbered-shape}
 use Rattle.slotted_model.proofs.Data.Sets.{IsAscending-ascending}
 

@@ -4,7 +4,7 @@ use Rattle.std.specs.Prelude.{Contains, cond}
 use Rattle.std.proofs.lemmas.Bool.{eq-eqb, ne_eqb}
 use Rattle.std.proofs.lemmas.List.{length-map}
 use Rattle.std.proofs.lemmas.List.Elements.{Contains-append_left, Contains-append_right}
-use Rattle.slotted_theory.proofs.Lists.{contains_head, contains_tail}
+use Rattle.slotted_lists.proofs.Contained.{contains_head, contains_tail}
 use Rattle.slotted_theory.specs.Nameless.{DArgs, DTerm, stop, place, sub, scope}
 use Rattle.slotted_theory.specs.FiniteMaps.{filled}
 use Rattle.slotted_theory.proofs.Values.{node, child_before}
@@ -127,7 +127,7 @@ replaced-leaves g linked c x can a v e n =
     (λ k. (class k, composite (map k) a.1)) ∙ e
 
 -- the size with another entry
-entry_size-live : (i : ℕ) (e : Entry) → e.class ≡ i → entry_size i e ≡ suc (length e.pairs)
+pub entry_size-live : (i : ℕ) (e : Entry) → e.class ≡ i → entry_size i e ≡ suc (length e.pairs)
 entry_size-live i e p = ap (λ b. cond b (suc (length e.pairs)) 0) (eq-eqb e.class i p)
 
 pub entry_size-dead : (i : ℕ) (e : Entry) → e.class ≢ i → entry_size i e ≡ 0

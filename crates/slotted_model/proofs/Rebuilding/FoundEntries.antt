@@ -2,6 +2,8 @@
 use Rattle.std.proofs.Common.{◌≡◌, ℕ, ◌<◌, List, [], ◌∷◌, length, sym, ◌∙◌, ap, refl, subst}
 use Rattle.std.specs.Prelude.{Contains}
 use Rattle.std.specs.Map.{keys_of, values_of}
+use Rattle.slotted_lists.proofs.Members.{In-Contains, Contains-In}
+use Rattle.slotted_lists.proofs.Maps.{with_values-pair}
 use Rattle.slotted_theory.specs.Nameless.{DTerm}
 use Rattle.slotted_theory.specs.FiniteMaps.{filled, with_values}
 use Rattle.slotted_theory.proofs.Filled.{filled-injective}
@@ -15,11 +17,10 @@ use Rattle.slotted_model.specs.ProofList.{Equation, equation_of, turned_equation
 use Rattle.slotted_model.specs.Link.{found_equation}
 use Rattle.slotted_theory.specs.FiniteMaps.{value_of}
 use Rattle.slotted_model.proofs.Data.Sets.{IsAscending-ascending, same_members}
-use Rattle.slotted_model.proofs.Data.Members.{In-Contains, Contains-In}
 use Rattle.slotted_model.proofs.Data.Maps.{map_on-filled, filled-pair}
 use Rattle.slotted_model.proofs.Correspondences.Pairs.{Contains-key, Contains-value, Contains-of_key, Contains-of_value}
 use Rattle.slotted_model.proofs.Correspondences.PartialInjections.{composite-in_order, composite-over, turned-partial, turned-pair, turned-by, in_order-ext, key_in_order, identity-both}
-use Rattle.slotted_model.proofs.Correspondences.FullMaps.{full-in_order, full-one_name, full-ext, full-from, same_names-over, same_names-by, same_names-partial, with_values-pair, with_values-full}
+use Rattle.slotted_model.proofs.Correspondences.FullMaps.{full-in_order, full-one_name, full-ext, full-from, same_names-over, same_names-by, same_names-partial, with_values-full}
 use Rattle.slotted_model.proofs.Correspondences.FullIds.{full_map, ascending-different}
 use Rattle.slotted_model.proofs.Data.Ordered.{in_order-ascending}
 use Rattle.slotted_model.proofs.Finds.Finding.{Leads, leads, found-in_range, found-live, found_keys, find_map-full}
@@ -27,7 +28,7 @@ use Rattle.slotted_model.proofs.Finds.NormalIds.{found-full, found-valid, full-i
 use Rattle.slotted_model.proofs.Finds.Uniting.{found_equation-over, found_equation-shares}
 
 -- the identity with names put in
-identity-names : (f : ℕ → ℕ) (S : List ℕ) → with_values f (identity S) ≡ map_on f S
+pub identity-names : (f : ℕ → ℕ) (S : List ℕ) → with_values f (identity S) ≡ map_on f S
 identity-names f [] = refl
 identity-names f (s ∷ S) = ap (λ l. (s, f s) ∷ l) (identity-names f S)
 

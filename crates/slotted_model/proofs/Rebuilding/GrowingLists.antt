@@ -5,14 +5,14 @@ use Rattle.std.proofs.lemmas.Bool.{cases_lt}
 use Rattle.std.proofs.lemmas.List.{get_or_append_left}
 use Rattle.std.proofs.lemmas.List.Elements.{filter_map-append, Contains-append_left, Contains-append_cases}
 use Rattle.std.proofs.Math.Seq.{get_or-append_right}
+use Rattle.slotted_lists.proofs.Contained.{contains_cases, Contains-nil}
+use Rattle.slotted_lists.proofs.Members.{In, Contains-In}
 use Rattle.slotted_theory.specs.Nameless.{DTerm}
-use Rattle.slotted_theory.proofs.Lists.{contains_cases, Contains-nil}
 use Rattle.slotted_model.specs.Find.{entry_at}
 use Rattle.slotted_model.specs.ProofList.{ProofEntry, explicit, equation_at, step_at, asserted, if_explicit, term_pair, Exact}
 use Rattle.slotted_model.specs.State.{Symmetry, State}
 use Rattle.slotted_model.specs.Rest.{IsListed, Sane}
 use Rattle.slotted_model.specs.Changes.{GoesOn, ProofsGrow, with_proofs, with_symmetry}
-use Rattle.slotted_model.proofs.Data.Members.{In, Contains-In}
 use Rattle.slotted_model.proofs.Finds.NormalIds.{found-again}
 use Rattle.slotted_model.proofs.Correspondences.Pairs.{Contains-filter_map}
 use Rattle.slotted_model.proofs.Rebuilding.GoingOn.{still-row, still-listed}

@@ -6,11 +6,12 @@ use Rattle.std.proofs.lemmas.Bool.{ne_eqb}
 use Rattle.std.proofs.lemmas.List.{get_or-set_other, get_or_append_left}
 use Rattle.std.proofs.lemmas.List.Elements.{Contains-append_cases}
 use Rattle.std.proofs.Math.Seq.{get_or-append_seam}
+use Rattle.slotted_lists.proofs.Contained.{contains_head, contains_tail, contains_cases, Contains-nil, Contains-map}
+use Rattle.slotted_lists.proofs.Members.{In, In-Contains}
 use Rattle.slotted_theory.specs.Nameless.{DArgs, DTerm, stop, place, sub, scope, moved}
 use Rattle.slotted_theory.specs.FiniteMaps.{filled}
 use Rattle.slotted_theory.specs.Shape.{free_names, number_in, shape}
 use Rattle.slotted_theory.proofs.Filled.{filled-injective}
-use Rattle.slotted_theory.proofs.Lists.{contains_head, contains_tail, contains_cases, Contains-nil, Contains-map}
 use Rattle.slotted_theory.proofs.Values.{node}
 use Rattle.slotted_model.specs.Ascending.{names}
 use Rattle.slotted_model.specs.Applied.{Applied, applied_of, EachChild}
@@ -26,7 +27,6 @@ use Rattle.slotted_model.specs.Rest.{IsValidIn, id_names, Sane, AtRest}
 use Rattle.slotted_model.specs.Changes.{GoesOn, dropped_state, with_proofs, found_entry, PairsAll, Unites, finds_alike, proves, drops_left, drops_right, left_dies, right_dies, lists, is_listed}
 use Rattle.slotted_model.specs.Rebuild.{with_row, row_for, IsCongruence, Turn, enters, narrows, unites_parents, refiles, Acts, acts, Runs, starts, takes_turn, takes_act}
 use Rattle.slotted_model.specs.Adding.{with_new_class, with_new_row, Adds, joins_row, files_row}
-use Rattle.slotted_model.proofs.Data.Members.{In, In-Contains}
 use Rattle.slotted_model.proofs.Data.Sets.{In-of_ascending}
 use Rattle.slotted_model.proofs.Data.Theory.{agrees-from_moved}
 use Rattle.slotted_model.proofs.Data.Maps.{filled-pair}

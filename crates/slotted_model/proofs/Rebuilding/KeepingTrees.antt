@@ -2,6 +2,7 @@
 -- as the new class.
 use Rattle.std.proofs.Common.{◌≡◌, ℕ, List, Option, Some, None, length, sym, ◌∙◌, ap, refl, subst}
 use Rattle.std.specs.Prelude.{option_map, option_and_then}
+use Rattle.slotted_lists.proofs.Options.{Some-same}
 use Rattle.slotted_theory.specs.Nameless.{DArgs, DTerm, stop, place, sub, scope}
 use Rattle.slotted_theory.proofs.Values.{node, child_before}
 use Rattle.slotted_model.specs.Applied.{Applied, as_term, EachChild}
@@ -12,7 +13,7 @@ use Rattle.slotted_model.specs.State.{State, look_up_node, look_up_tree}
 use Rattle.slotted_model.specs.Rest.{IsValidIn, AtRest, LookedUp, IsAnswer}
 use Rattle.slotted_model.specs.Adding.{Adds, HasAdded, KeepsLookUps, SameAnswers}
 use Rattle.slotted_model.specs.Changes.{GoesOn}
-use Rattle.slotted_model.proofs.Data.Options.{Some-same, option_map-some, both-some, and_then-some}
+use Rattle.slotted_model.proofs.Data.Options.{option_map-some, both-some, and_then-some}
 use Rattle.slotted_model.proofs.Represented.Children.{EachChild-map}
 use Rattle.slotted_model.proofs.Represented.Terms.{term_at-seam}
 use Rattle.slotted_model.proofs.Finds.NormalIds.{found-valid, full-is_valid}

@@ -2,7 +2,8 @@
 use Rattle.std.proofs.Common.{◌≡◌, ℕ, List, [], ◌∷◌, sym, ◌∙◌, subst, inl, inr}
 use Rattle.std.specs.Prelude.{Contains, ◌⊎◌}
 use Rattle.std.specs.Map.{keys_of, values_of}
-use Rattle.slotted_theory.proofs.Lists.{contains_head, contains_tail, contains_cases, Contains-nil}
+use Rattle.slotted_lists.proofs.Contained.{contains_head, contains_tail, contains_cases, Contains-nil}
+use Rattle.slotted_lists.proofs.Members.{In-Contains, Contains-In}
 use Rattle.slotted_model.specs.Ascending.{ascending, names}
 use Rattle.slotted_model.specs.Applied.{Applied}
 use Rattle.slotted_model.specs.Classes.{canonical_slots, IsFull}
@@ -14,7 +15,6 @@ use Rattle.slotted_model.specs.State.{Symmetry, State, normal_node}
 use Rattle.slotted_model.specs.Rest.{IsAligned, IsListed, Sane}
 use Rattle.slotted_model.specs.Changes.{found_entry, PairsAll, Lacks}
 use Rattle.slotted_model.specs.Rebuild.{IsCongruence}
-use Rattle.slotted_model.proofs.Data.Members.{In-Contains, Contains-In}
 use Rattle.slotted_model.proofs.Data.Sets.{ascending-same}
 use Rattle.slotted_model.proofs.Rebuilding.Touching.{has_slot-cases}
 use Rattle.slotted_model.proofs.Correspondences.Pairs.{Contains-key, Contains-value, Contains-of_key, Contains-of_value}

@@ -2,14 +2,14 @@
 use Rattle.std.proofs.Common.{◌≡◌, ◌≢◌, ℕ, List, [], ◌∷◌, Bool, cond, ◌∙◌, ap, refl, subst, inl, inr}
 use Rattle.std.specs.Prelude.{Contains, not}
 use Rattle.std.proofs.lemmas.Bool.{eq-eqb, ne_eqb}
-use Rattle.slotted_theory.proofs.Lists.{contains_head, contains_tail, contains_cases}
+use Rattle.slotted_lists.proofs.Contained.{contains_head, contains_tail, contains_cases}
 use Rattle.slotted_theory.specs.Shape.{shape}
 use Rattle.slotted_model.specs.State.{Row, State, normal_node}
 use Rattle.slotted_model.specs.Rebuild.{row_for, with_row, without, refiled_state, IsCovered, Turn, refiles, Runs, starts, takes_turn}
 use Rattle.slotted_model.specs.Adding.{with_new_row, with_quiet_row}
 
 -- what is not there is not left out, and no other row is replaced
-none-without : (i : ℕ) (xs : List ℕ) → ¬ Contains xs i → without i xs ≡ xs
+pub none-without : (i : ℕ) (xs : List ℕ) → ¬ Contains xs i → without i xs ≡ xs
 none-without i [] n = refl
 none-without i (x ∷ xs) n =
     ap (λ (b : Bool). cond (not b) (x ∷ without i xs) (without i xs)) (ne_eqb x i (λ e. n (subst (Contains (x ∷ xs)) e (contains_head x xs))))

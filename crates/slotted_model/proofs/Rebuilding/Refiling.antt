@@ -3,10 +3,11 @@ use Rattle.std.proofs.Common.{◌≡◌, ◌≢◌, ℕ, suc, ◌<◌, ◌≤◌
 use Rattle.std.specs.Prelude.{Contains, map, filter, not, nat_eq, ◌⊎◌}
 use Rattle.std.proofs.lemmas.Bool.{cases_eq, cases_Bool, eq-eqb, ne_eqb, false≢true}
 use Rattle.std.proofs.lemmas.List.Sums.{length-filter, count_by-le-length}
+use Rattle.slotted_lists.proofs.Contained.{contains_head, contains_tail, contains_cases, Contains-nil, Contains-of_map}
+use Rattle.slotted_lists.proofs.Members.{In, In-map, In-of_map, In-Contains, Contains-In}
 use Rattle.slotted_theory.specs.Nameless.{DTerm}
 use Rattle.slotted_theory.specs.FiniteMaps.{filled}
 use Rattle.slotted_theory.specs.Shape.{free_names, number_in, shape}
-use Rattle.slotted_theory.proofs.Lists.{contains_head, contains_tail, contains_cases, Contains-nil, Contains-of_map}
 use Rattle.slotted_theory.proofs.Shapes.{number_in-injective, shape-moved}
 use Rattle.slotted_model.specs.Ascending.{names}
 use Rattle.slotted_model.specs.Applied.{values, EachChild}
@@ -18,7 +19,6 @@ use Rattle.slotted_model.specs.State.{Row, State, sources, filed_node, normal_no
 use Rattle.slotted_model.specs.Rest.{IsValidIn, LinkedTo, IsRow, IsCurrent, Sane, Represents}
 use Rattle.slotted_model.specs.Changes.{GoesOn}
 use Rattle.slotted_model.specs.Rebuild.{without, without_row, with_row, row_for, removed_state, refiled_state, IsCovered}
-use Rattle.slotted_model.proofs.Data.Members.{In, In-map, In-of_map, In-Contains, Contains-In}
 use Rattle.slotted_model.proofs.Data.Sets.{IsAscending-ascending, In-ascending}
 use Rattle.slotted_model.proofs.Data.Theory.{moved-agrees, moved-moved, moved-id, free_names-moved}
 use Rattle.slotted_model.proofs.Data.Maps.{keys-map_on, values-map_on, filled-map_on, IsInjectiveMap-map_on}
@@ -32,6 +32,7 @@ use Rattle.slotted_model.proofs.Rebuilding.Rows.{shape-number, name_numbered-at}
 use Rattle.slotted_model.proofs.Rebuilding.Events.{normal-found}
 use Rattle.slotted_model.proofs.Rebuilding.GoingOn.{still-row, still-listed, still-linked, still-equal}
 use Rattle.slotted_model.proofs.Rebuilding.UpTo.{linked_to-joined}
+use Rattle.slotted_model.proofs.Rebuilding.QuietTurns.{none-without}
 
 -- members of a filtered list
 pub filter-keeps : {X : Type 0} (p : X → Bool) (xs : List X) (x : X) → Contains xs x → p x ≡ true → Contains (filter p xs) x
@@ -71,19 +72,13 @@ without-keeps o x xs c n = filter-keeps (λ y. not (nat_eq y o)) xs x c (other-p
 pub without-from : (o x : ℕ) (xs : List ℕ) → Contains (without o xs) x → Contains xs x × (x ≢ o)
 without-from o x xs c = let r = filter-from (λ y. not (nat_eq y o)) xs x c in (r.0, passes-other x o r.1)
 
-without-none : (o : ℕ) (xs : List ℕ) → ¬ Contains xs o → without o xs ≡ xs
-without-none o [] n = refl
-without-none o (x ∷ xs) n =
-    let d : x ≢ o = λ e. n (subst (Contains (x ∷ xs)) e (contains_head x xs)) in
-    ap (λ b. cond b (x ∷ without o xs) (without o xs)) (other-passes x o d) ∙ ap (λ l. x ∷ l) (without-none o xs (λ c. n (contains_tail x xs o c)))
-
 -- a list without one of its members is one shorter
 pub without-length : (o : ℕ) (xs : List ℕ) → AllDifferent xs → Contains xs o → suc (length (without o xs)) ≡ length xs
 without-length o [] d c = absurd (Contains-nil o c)
 without-length o (x ∷ xs) d c = elim (cases_eq x o) [
   | inl e ↦
       ap (λ b. suc (length (cond b (x ∷ without o xs) (without o xs)))) (ap not (eq-eqb x o e))
-      ∙ ap (λ l. suc (length l)) (without-none o xs (λ k. d.0 (subst (Contains xs) (sym e) k)))
+      ∙ ap (λ l. suc (length l)) (none-without o xs (λ k. d.0 (subst (Contains xs) (sym e) k)))
   | inr n ↦
       ap (λ b. suc (length (cond b (x ∷ without o xs) (without o xs)))) (other-passes x o n)
       ∙ ap suc (without-length o xs d.1 (elim (contains_cases x xs o c) [

@@ -3,13 +3,15 @@ use Rattle.std.proofs.Common.{◌≡◌, ℕ, List, [], ◌∷◌, Option, Some,
 use Rattle.std.specs.Prelude.{map, Contains, option_map}
 use Rattle.std.specs.List.{cons_option}
 use Rattle.std.proofs.lemmas.Bool.{cases_Bool}
+use Rattle.slotted_lists.proofs.Contained.{contains_head, contains_tail, contains_cases, Contains-nil, Contains-map, Contains-of_map}
+use Rattle.slotted_lists.proofs.Members.{In, In-map, In-of_map, In-Contains, Contains-In}
+use Rattle.slotted_lists.proofs.Options.{Some-same}
 use Rattle.slotted_theory.specs.Nameless.{DTerm, moved}
 use Rattle.slotted_theory.specs.Renaming.{Bijection, IsInjective}
 use Rattle.slotted_theory.specs.FiniteMaps.{value_of, filled, with_values}
 use Rattle.slotted_theory.specs.Shape.{free_names, number_in, shape}
 use Rattle.slotted_theory.proofs.Bijections.{to-injective}
 use Rattle.slotted_theory.proofs.Filled.{filled-injective}
-use Rattle.slotted_theory.proofs.Lists.{contains_head, contains_tail, contains_cases, Contains-nil, Contains-map, Contains-of_map}
 use Rattle.slotted_theory.proofs.Shapes.{shape-moved}
 use Rattle.slotted_model.specs.Ascending.{IsAscending, names}
 use Rattle.slotted_model.specs.Applied.{Applied, keys, values, renamed_id}
@@ -21,9 +23,8 @@ use Rattle.slotted_model.specs.ProofList.{node_of}
 use Rattle.slotted_model.specs.Normal.{normal}
 use Rattle.slotted_model.specs.State.{Row, State, sources, normal_node, row_of, name_numbered, source_with_names, look_up_normal, look_up_node, look_up_tree}
 use Rattle.slotted_model.specs.Rest.{UpToSymmetries, found_alike, turned_round, joined, FoundTogether, LinkedTo, IsRow, IsCurrent, Filed, Sane, AtRest, LookedUp, RestGives}
-use Rattle.slotted_model.proofs.Data.Members.{In, In-map, In-of_map, In-Contains, Contains-In}
 use Rattle.slotted_model.proofs.Data.Sets.{IsAscending-ascending, In-ascending, In-of_ascending}
-use Rattle.slotted_model.proofs.Data.Options.{None-Some, Some-same}
+use Rattle.slotted_model.proofs.Data.Options.{None-Some}
 use Rattle.slotted_model.proofs.Data.Theory.{free_names-moved, get_or-number_in}
 use Rattle.slotted_model.proofs.Data.Maps.{filled-pair, pair-filled}
 use Rattle.slotted_model.proofs.Represented.Ids.{term_eq-true, term_eq-same}
@@ -116,7 +117,7 @@ one_row (x ∷ rows) d r q c k e = elim (contains_cases x rows r c) [
 ]
 
 -- composites over one list need only the values there
-composite-agree : (A m n : List (ℕ × ℕ)) → ((s : ℕ) → In s (values A) → value_of m s ≡ value_of n s) → composite A m ≡ composite A n
+pub composite-agree : (A m n : List (ℕ × ℕ)) → ((s : ℕ) → In s (values A) → value_of m s ≡ value_of n s) → composite A m ≡ composite A n
 composite-agree [] m n h = refl
 composite-agree (p ∷ A) m n h = λ i. cons_option (option_map (λ u. (p.0, u)) (h p.1 (inl refl) i)) (composite-agree A m n (λ s k. h s (inr k)) i)
 

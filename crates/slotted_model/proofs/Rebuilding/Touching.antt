@@ -2,8 +2,9 @@
 use Rattle.std.proofs.Common.{◌≡◌, ℕ, suc, ◌<◌, ◌≤◌, List, [], ◌∷◌, length, true, false, cond, sym, ◌∙◌, ap, refl, subst, inl, inr, arith}
 use Rattle.std.specs.Prelude.{Contains, ◌⊎◌, ◌||◌, ◌++◌, nat_eq}
 use Rattle.std.proofs.lemmas.Bool.{cases_eq, eq-eqb, ne_eqb}
+use Rattle.std.proofs.lemmas.List.Elements.{Contains-append_cases}
+use Rattle.slotted_lists.proofs.Contained.{contains_head, contains_tail, contains_cases, Contains-nil}
 use Rattle.slotted_theory.specs.Nameless.{DArgs, stop, place, sub, scope, lift, moved_args}
-use Rattle.slotted_theory.proofs.Lists.{contains_head, contains_tail, contains_cases, Contains-nil}
 use Rattle.slotted_model.specs.Correspondence.{AllDifferent, has_slot}
 use Rattle.slotted_model.specs.State.{Row, State, child_classes, HasTouched}
 use Rattle.slotted_model.proofs.Represented.RenamedIds.{applied_of-moved}
@@ -183,3 +184,17 @@ different-fewer xs ys d h s c n =
       | inr j ↦ h z j
     ]) in
     omega arith
+
+-- a number at the end of a list that has it nowhere
+pub different-added : (q : List ℕ) (i : ℕ) → AllDifferent q → ¬ Contains q i → AllDifferent (q ++ i ∷ [])
+different-added [] i d n = (Contains-nil i, tt)
+different-added (x ∷ q) i d n = (
+  λ c. elim (Contains-append_cases q (i ∷ []) x c) [
+    | inl k ↦ d.0 k
+    | inr k ↦ elim (contains_cases i [] x k) [
+      | inl e ↦ n (subst (Contains (x ∷ q)) e (contains_head x q))
+      | inr m ↦ Contains-nil x m
+    ]
+  ],
+  different-added q i d.1 (λ c. n (contains_tail x q i c)),
+)

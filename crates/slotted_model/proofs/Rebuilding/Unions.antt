@@ -3,7 +3,7 @@ use Rattle.std.proofs.Common.{◌≡◌, ◌≢◌, ℕ, ◌<◌, List, [], ◌�
 use Rattle.std.specs.Prelude.{Contains, ◌⊎◌}
 use Rattle.std.specs.Map.{keys_of, values_of}
 use Rattle.std.proofs.lemmas.List.Elements.{Contains-append_right}
-use Rattle.slotted_theory.proofs.Lists.{contains_head}
+use Rattle.slotted_lists.proofs.Contained.{contains_head}
 use Rattle.slotted_theory.specs.FiniteMaps.{filled}
 use Rattle.slotted_theory.proofs.Filled.{filled-injective}
 use Rattle.slotted_model.specs.Applied.{Applied, renamed_id}

@@ -2,6 +2,8 @@
 use Rattle.std.proofs.Common.{◌≡◌, ℕ, ◌<◌, List, length, sym, ◌∙◌, ap, refl, subst, inl, inr}
 use Rattle.std.specs.Prelude.{Contains}
 use Rattle.std.proofs.lemmas.Bool.{cases_Bool, false≢true}
+use Rattle.slotted_lists.proofs.Members.{In, In-map, In-of_map}
+use Rattle.slotted_lists.proofs.Maps.{values-with_values}
 use Rattle.slotted_theory.specs.Nameless.{DTerm, moved}
 use Rattle.slotted_theory.specs.Renaming.{Bijection, IsInjective}
 use Rattle.slotted_theory.specs.Shape.{free_names}
@@ -17,9 +19,8 @@ use Rattle.slotted_model.specs.ProofList.{node_of}
 use Rattle.slotted_model.specs.Normal.{normal}
 use Rattle.slotted_model.specs.State.{Symmetry, State, left_of, right_of}
 use Rattle.slotted_model.specs.Rest.{IsValidIn, UpToSymmetries, found_alike, listed, turned_round, joined, LinkedTo, id_names, IsAligned, HasNoOpenSymmetry, IsListed, FoundTogether}
-use Rattle.slotted_model.proofs.Data.Members.{In, In-map, In-of_map}
 use Rattle.slotted_model.proofs.Data.Sets.{IsAscending-ascending, In-ascending, In-of_ascending, ascending-same}
-use Rattle.slotted_model.proofs.Data.Maps.{keys-map_on, values-with_values, IsInjectiveMap-map_on}
+use Rattle.slotted_model.proofs.Data.Maps.{keys-map_on, IsInjectiveMap-map_on}
 use Rattle.slotted_model.proofs.Represented.Ids.{term_eq-true, term_eq-same}
 use Rattle.slotted_model.proofs.Represented.Folds.{as_term-same}
 use Rattle.slotted_model.proofs.Represented.OtherFillings.{with_values-then}

@@ -2,6 +2,8 @@
 use Rattle.std.proofs.Common.{◌≡◌, ℕ, List, [], ◌∷◌, ◌++◌, sym, ◌∙◌, ap, refl, subst, inl, inr}
 use Rattle.std.specs.Prelude.{map}
 use Rattle.std.specs.List.{zip}
+use Rattle.slotted_lists.proofs.Members.{In, In-left, In-right, In-append, In-map, In-of_map}
+use Rattle.slotted_lists.proofs.Maps.{keys-with_values, values-with_values}
 use Rattle.slotted_theory.specs.Nameless.{DArgs, DTerm, stop, place, sub, scope, lift, moved, moved_args}
 use Rattle.slotted_theory.specs.Renaming.{IsInjective}
 use Rattle.slotted_theory.specs.FiniteMaps.{filled, with_values}
@@ -11,10 +13,10 @@ use Rattle.slotted_theory.proofs.Values.{node, child_before, expand_args, expand
 use Rattle.slotted_model.specs.Ascending.{IsAscending}
 use Rattle.slotted_model.specs.Applied.{Applied, keys, values, renamed_id, in_places, own_names, as_term, IsApplied, EachChild}
 use Rattle.slotted_model.specs.Classes.{term_at, term_by, stands, layer}
-use Rattle.slotted_model.proofs.Data.Members.{In, In-left, In-right, In-append, In-map, In-of_map, In-outside, In-inside}
+use Rattle.slotted_model.proofs.Data.Members.{In-outside, In-inside}
 use Rattle.slotted_model.proofs.Data.Sets.{SameMembers}
 use Rattle.slotted_model.proofs.Data.Theory.{moved-agrees, moved-moved, free_names-moved}
-use Rattle.slotted_model.proofs.Data.Maps.{keys-with_values, values-with_values, filled-with_values, values-map_on, map_on-filled}
+use Rattle.slotted_model.proofs.Data.Maps.{filled-with_values, values-map_on, map_on-filled}
 
 pub zip-places : (m : List (ℕ × ℕ)) → zip (keys m) (own_names (in_places (values m))) ≡ m
 zip-places [] = refl

@@ -2,6 +2,7 @@
 use Rattle.std.proofs.Common.{◌≡◌, ◌⊎◌, ℕ, List, [], ◌∷◌, Bool, true, false, cond, sym, ◌∙◌, ap, refl, subst, inl, inr}
 use Rattle.std.specs.Prelude.{Contains, filter}
 use Rattle.std.proofs.lemmas.Bool.{false≢true}
+use Rattle.slotted_lists.proofs.Members.{In-Contains, Contains-In}
 use Rattle.slotted_theory.specs.Nameless.{DTerm}
 use Rattle.slotted_theory.specs.FiniteMaps.{value_of}
 use Rattle.slotted_model.specs.Ascending.{IsBelowAll, IsAscending}
@@ -10,7 +11,6 @@ use Rattle.slotted_model.specs.Classes.{canonical_slots}
 use Rattle.slotted_model.specs.Correspondence.{IsFullMap, pairs_on, identity, same_names, has_slot}
 use Rattle.slotted_model.specs.Filling.{IsValid, IsFilling}
 use Rattle.slotted_model.specs.ProofList.{equation_of}
-use Rattle.slotted_model.proofs.Data.Members.{In-Contains, Contains-In}
 use Rattle.slotted_model.proofs.Data.Sets.{same_members}
 use Rattle.slotted_model.proofs.Rebuilding.Refiling.{filter-keeps, filter-from}
 use Rattle.slotted_model.proofs.Rebuilding.Touching.{has_slot-cases}

@@ -1,6 +1,7 @@
 -- Fillings of applied ids that lack names.
 use Rattle.std.proofs.Common.{◌≡◌, ◌↔◌, ℕ, ◌+◌, ◌<◌, ◌≤◌, List, [], ◌∷◌, sym, ◌∙◌, ap, refl, subst, inl, inr, arith}
 use Rattle.std.specs.Prelude.{max, Contains}
+use Rattle.slotted_lists.proofs.Members.{In, In-map, In-of_map, In-Contains, Contains-In}
 use Rattle.slotted_theory.specs.Nameless.{DTerm}
 use Rattle.slotted_theory.specs.FiniteMaps.{top, filled}
 use Rattle.slotted_theory.specs.Shape.{free_names}
@@ -8,7 +9,6 @@ use Rattle.slotted_model.specs.Ascending.{IsAscending}
 use Rattle.slotted_model.specs.Applied.{Applied, keys, values, map_on}
 use Rattle.slotted_model.specs.Classes.{canonical_node, canonical_term, canonical_slots, term_of, IsFull, Canonical}
 use Rattle.slotted_model.specs.Filling.{IsValid, IsFilling, EqualForSomeFilling, EqualForEveryFilling}
-use Rattle.slotted_model.proofs.Data.Members.{In, In-map, In-of_map, In-Contains, Contains-In}
 use Rattle.slotted_model.proofs.Data.Sets.{IsAscending-ascending, same_members}
 use Rattle.slotted_model.proofs.Data.Theory.{moved-agrees, past, filled-past}
 use Rattle.slotted_model.proofs.Data.Maps.{keys-map_on, filled-map_on, map_on-agrees, map_on-filled, IsInjectiveMap-map_on, past-missing, past-pair, past-injective, filled-pair, pair-filled}

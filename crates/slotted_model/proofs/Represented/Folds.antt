@@ -1,6 +1,7 @@
 -- A look-up as a value: a tree is looked up exactly if its value from the bottom up is an applied id.
 use Rattle.std.proofs.Common.{◌≡◌, ◌↔◌, ℕ, ◌<◌, List, Option, Some, None, sym, ◌∙◌, ap, refl, subst, arith}
 use Rattle.std.specs.Prelude.{option_map, option_and_then}
+use Rattle.slotted_lists.proofs.Options.{Some-same}
 use Rattle.slotted_theory.specs.Nameless.{DArgs, DTerm, stop, place, sub, scope, moved}
 use Rattle.slotted_theory.specs.FiniteMaps.{filled}
 use Rattle.slotted_theory.proofs.Values.{node, child_before, value_args, value}
@@ -9,7 +10,7 @@ use Rattle.slotted_model.specs.Trees.{HasNoIds, IsTree}
 use Rattle.slotted_model.specs.Classes.{canonical_node, IsFull, Canonical}
 use Rattle.slotted_model.specs.LookUp.{both, look_up_args, look_up, answer_or, found_or}
 use Rattle.slotted_model.specs.Ids.{id_of_node, id_of}
-use Rattle.slotted_model.proofs.Data.Options.{and_then-some, option_map-some, both-some, Some-same}
+use Rattle.slotted_model.proofs.Data.Options.{and_then-some, option_map-some, both-some}
 use Rattle.slotted_model.proofs.Represented.Children.{EachChild-map, zip-places, moved-as_term}
 use Rattle.slotted_model.proofs.Represented.Full.{full-children}
 use Rattle.slotted_model.proofs.Represented.Ids.{Stands, id_of_node-some}

@@ -1,5 +1,7 @@
 -- Full ids: their names are those of their terms, renaming moves their terms, and their terms are layers.
 use Rattle.std.proofs.Common.{◌≡◌, ℕ, zero, suc, ◌+◌, ◌<◌, List, length, sym, ◌∙◌, ap, subst, arith}
+use Rattle.slotted_lists.proofs.Members.{Contains-In}
+use Rattle.slotted_lists.proofs.Maps.{keys-with_values}
 use Rattle.slotted_theory.specs.Nameless.{DTerm, moved}
 use Rattle.slotted_theory.specs.FiniteMaps.{filled}
 use Rattle.slotted_theory.specs.Shape.{free_names}
@@ -8,9 +10,8 @@ use Rattle.slotted_model.specs.Ascending.{IsAscending, ascending, names}
 use Rattle.slotted_model.specs.Applied.{Applied, keys, values, renamed_id, EachChild}
 use Rattle.slotted_model.specs.Classes.{terms, canonical_node, canonical_term, term_of, layer_of, canonical_slots, IsFull, Canonical}
 use Rattle.slotted_model.specs.Claims.{IsInjectiveOn}
-use Rattle.slotted_model.proofs.Data.Members.{Contains-In}
 use Rattle.slotted_model.proofs.Data.Sets.{SameMembers, IsAscending-ascending, In-ascending, In-of_ascending, same_members, ascending-same}
-use Rattle.slotted_model.proofs.Data.Maps.{keys-with_values, IsInjectiveMap-with_values}
+use Rattle.slotted_model.proofs.Data.Maps.{IsInjectiveMap-with_values}
 use Rattle.slotted_model.proofs.Represented.Children.{EachChild-map, EachChild-moved, KeysAreNames, term_by-renamed, layer-moved, names-term_by, names-expand}
 use Rattle.slotted_model.proofs.Represented.Terms.{terms_from-layer}
 

@@ -2,6 +2,8 @@
 use Rattle.std.proofs.Common.{◌≡◌, ◌↔◌, ℕ, zero, suc, ◌<◌, List, [], ◌∷◌, Option, Some, None, length, get_or, true, false, cond, sym, ◌∙◌, ap, refl, subst, inl, inr, arith}
 use Rattle.std.specs.Prelude.{option_map, option_and_then}
 use Rattle.std.proofs.lemmas.Bool.{cases_Bool}
+use Rattle.slotted_lists.proofs.Members.{In}
+use Rattle.slotted_lists.proofs.Options.{Some-same}
 use Rattle.slotted_theory.specs.Nameless.{DArgs, DTerm, stop, place, sub, scope, moved}
 use Rattle.slotted_theory.specs.FiniteMaps.{filled}
 use Rattle.slotted_theory.specs.Shape.{free_names, number_in, shape, SameUpToNames}
@@ -13,10 +15,9 @@ use Rattle.slotted_model.specs.Applied.{Applied, map_on, as_term, EachChild}
 use Rattle.slotted_model.specs.Classes.{term_at, stands, terms, canonical_node, canonical_slots, term_of, layer_of, IsFull, Canonical}
 use Rattle.slotted_model.specs.LookUp.{both, look_up_args}
 use Rattle.slotted_model.specs.Ids.{term_eq, first_shaped, name_for, class_with_names, id_of_node, id_of}
-use Rattle.slotted_model.proofs.Data.Members.{In}
 use Rattle.slotted_model.proofs.Data.Sets.{IsAscending-ascending, In-ascending, In-of_ascending}
 use Rattle.slotted_model.proofs.Data.Parts.{first_child}
-use Rattle.slotted_model.proofs.Data.Options.{None-Some, Some-same, option_map-some, option_map-none, and_then-some, both-some}
+use Rattle.slotted_model.proofs.Data.Options.{None-Some, option_map-some, option_map-none, and_then-some, both-some}
 use Rattle.slotted_model.proofs.Data.Theory.{moved-agrees, free_names-moved, get_or-number_in, args_eq-true, args_eq-same}
 use Rattle.slotted_model.proofs.Data.Maps.{keys-map_on, map_on-agrees, map_on-filled, filled-map_on, IsInjectiveMap-map_on}
 use Rattle.slotted_model.proofs.Represented.Children.{EachChild-map, expand-child, expand-as_term}
@@ -74,7 +75,7 @@ none-first_shaped s (c ∷ cs) n = elim (cases_Bool (term_eq (shape c) s)) [
 ]
 
 -- what f moves c to has f x where c has x first
-name_for-moved : (f : ℕ → ℕ) (c d : DTerm) → moved f c ≡ d → (x : ℕ) → In x (free_names c.args) → name_for c d x ≡ f x
+pub name_for-moved : (f : ℕ → ℕ) (c d : DTerm) → moved f c ≡ d → (x : ℕ) → In x (free_names c.args) → name_for c d x ≡ f x
 name_for-moved f c d e x h =
     ap (λ ns. get_or ns (number_in (free_names c.args) x) 0) (ap (λ (t : DTerm). free_names t.args) (sym e) ∙ free_names-moved f c.args)
     ∙ get_or-number_in f (free_names c.args) x h

@@ -1,6 +1,7 @@
 -- A look-up commutes with renaming where the answers for nodes do.
 use Rattle.std.proofs.Common.{◌≡◌, ℕ, List, Option, Some, None, sym, ◌∙◌, ap, refl, subst}
 use Rattle.std.specs.Prelude.{option_map, option_and_then}
+use Rattle.slotted_lists.proofs.Members.{In}
 use Rattle.slotted_theory.specs.Nameless.{DArgs, DTerm, stop, place, sub, scope, lift, moved, moved_args}
 use Rattle.slotted_theory.specs.Renaming.{IsInjective}
 use Rattle.slotted_theory.specs.FiniteMaps.{filled, with_values}
@@ -13,7 +14,6 @@ use Rattle.slotted_model.specs.Classes.{canonical_node, IsFull, Canonical}
 use Rattle.slotted_model.specs.LookUp.{both, look_up_args, look_up}
 pub use Rattle.slotted_model.specs.LookUp.{Renames}
 use Rattle.slotted_model.specs.Ids.{id_of_node, id_of}
-use Rattle.slotted_model.proofs.Data.Members.{In}
 use Rattle.slotted_model.proofs.Data.Sets.{In-ascending}
 use Rattle.slotted_model.proofs.Data.Theory.{moved-agrees, moved-moved}
 use Rattle.slotted_model.proofs.Data.Maps.{filled-with_values}

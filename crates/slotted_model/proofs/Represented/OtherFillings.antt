@@ -2,6 +2,8 @@
 use Rattle.std.proofs.Common.{◌≡◌, ◌↔◌, ℕ, List, [], ◌∷◌, sym, ◌∙◌, ap, refl, subst, inl, inr, ◌⊎◌}
 use Rattle.std.specs.Prelude.{map, Contains}
 use Rattle.std.proofs.lemmas.Bool.{cases_eq}
+use Rattle.slotted_lists.proofs.Members.{In, In-map, In-of_map, In-Contains, Contains-In}
+use Rattle.slotted_lists.proofs.Maps.{keys-with_values, values-with_values}
 use Rattle.slotted_theory.specs.Nameless.{DTerm, moved}
 use Rattle.slotted_theory.specs.Renaming.{Bijection}
 use Rattle.slotted_theory.specs.FiniteMaps.{filled, with_values}
@@ -11,8 +13,7 @@ use Rattle.slotted_model.specs.Ascending.{IsAscending}
 use Rattle.slotted_model.specs.Applied.{Applied, keys, values, map_on, renamed_id}
 use Rattle.slotted_model.specs.Classes.{canonical_slots, term_of, Canonical}
 use Rattle.slotted_model.specs.Filling.{IsValid, IsFilling, EqualForSomeFilling, EqualForEveryFilling, RenamedFilling, RenamedTogether}
-use Rattle.slotted_model.proofs.Data.Members.{In, In-map, In-of_map, In-Contains, Contains-In}
-use Rattle.slotted_model.proofs.Data.Maps.{keys-with_values, values-with_values, map_on-agrees, map_on-filled, filled-with_values, filled-pair, pair-filled}
+use Rattle.slotted_model.proofs.Data.Maps.{map_on-agrees, map_on-filled, filled-with_values, filled-pair, pair-filled}
 use Rattle.slotted_model.proofs.Data.Extension.{Different, Extension, extension, Different-map}
 use Rattle.slotted_model.proofs.Represented.Full.{full-ascending, full-renamed, term_of-renamed}
 use Rattle.slotted_model.proofs.Represented.Fillings.{a_filling}

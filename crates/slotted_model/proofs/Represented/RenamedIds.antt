@@ -2,11 +2,13 @@
 use Rattle.std.proofs.Common.{◌≡◌, ℕ, List, [], ◌∷◌, sym, ◌∙◌, ap, refl, subst}
 use Rattle.std.specs.Prelude.{map, Contains}
 use Rattle.std.specs.List.{zip}
+use Rattle.slotted_lists.proofs.Contained.{Contains-nil}
+use Rattle.slotted_lists.proofs.Members.{In}
+use Rattle.slotted_lists.proofs.Maps.{zip-with_values, keys-with_values}
 use Rattle.slotted_theory.specs.Nameless.{DArgs, DTerm, stop, place, sub, scope, lift, moved, moved_args}
 use Rattle.slotted_theory.specs.Renaming.{Bijection, IsInjective}
 use Rattle.slotted_theory.specs.FiniteMaps.{filled, with_values}
 use Rattle.slotted_theory.specs.Shape.{free_names}
-use Rattle.slotted_theory.proofs.Lists.{Contains-nil}
 use Rattle.slotted_theory.proofs.Values.{node, child_before}
 use Rattle.slotted_model.specs.Ascending.{IsAscending}
 use Rattle.slotted_model.specs.Applied.{Applied, keys, renamed_id, own_names, as_term, applied_of}
@@ -15,10 +17,9 @@ use Rattle.slotted_model.specs.Filling.{IsValid, IsFilling, RenamedFilling}
 use Rattle.slotted_model.specs.Find.{Entry, find}
 use Rattle.slotted_model.specs.ProofList.{node_of}
 use Rattle.slotted_model.specs.Normal.{normal_args, normal}
-use Rattle.slotted_model.proofs.Data.Members.{In}
 use Rattle.slotted_model.proofs.Data.Sets.{In-ascending}
 use Rattle.slotted_model.proofs.Data.Theory.{moved-agrees, moved-moved}
-use Rattle.slotted_model.proofs.Data.Maps.{keys-with_values, filled-with_values, IsInjectiveMap-with_values}
+use Rattle.slotted_model.proofs.Data.Maps.{filled-with_values, IsInjectiveMap-with_values}
 use Rattle.slotted_model.proofs.Represented.Children.{moved-as_term}
 use Rattle.slotted_model.proofs.Finds.NormalIds.{found-renamed}
 use Rattle.slotted_model.proofs.Represented.OtherFillings.{renamed_filling}
@@ -56,11 +57,6 @@ own_names-moved f stop = refl
 own_names-moved f (place x rest) = ap (λ xs. f x ∷ xs) (own_names-moved f rest)
 own_names-moved f (sub op payloads args rest) = refl
 own_names-moved f (scope inner rest) = refl
-
-zip-with_values : (f : ℕ → ℕ) (ks xs : List ℕ) → zip ks (map f xs) ≡ with_values f (zip ks xs)
-zip-with_values f [] xs = refl
-zip-with_values f (k ∷ ks) [] = refl
-zip-with_values f (k ∷ ks) (x ∷ xs) = ap (λ m. (k, f x) ∷ m) (zip-with_values f ks xs)
 
 pub applied_of-moved : (f : ℕ → ℕ) (payloads : List (List ℕ)) (d : DArgs) → applied_of payloads (moved_args f d) ≡ renamed_id f (applied_of payloads d)
 applied_of-moved f [] d = refl

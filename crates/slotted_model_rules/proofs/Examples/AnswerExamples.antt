@@ -3,16 +3,17 @@
 use Rattle.std.proofs.Common.{◌≡◌, ◌∙◌, ℕ, List, [], ◌∷◌, Some, None, sym, ap, refl, inl, inr, arith}
 use Rattle.std.specs.Prelude.{Contains, cond}
 use Rattle.std.proofs.lemmas.Bool.{cases_Bool}
+use Rattle.slotted_lists.proofs.Contained.{contains_head, Contains-nil}
+use Rattle.slotted_lists.proofs.Options.{Some-same}
 use Rattle.slotted_theory.specs.Decided.{numbers_eq}
 use Rattle.slotted_theory.specs.Renaming.{Bijection, IsInjective, swapped}
 use Rattle.slotted_theory.proofs.Bijections.{to-injective, swap}
-use Rattle.slotted_theory.proofs.Lists.{contains_head, Contains-nil}
 use Rattle.slotted_model.specs.Applied.{Applied, renamed_id}
 use Rattle.slotted_model.specs.Find.{find_class, find}
 use Rattle.slotted_model.specs.Rest.{IsValidIn}
 use Rattle.slotted_model.proofs.Examples.CompletenessExamples as dropped
 use Rattle.slotted_model.proofs.Examples.CompletenessExamples.{one_of}
-use Rattle.slotted_model.proofs.Data.Options.{Some-same, None-Some}
+use Rattle.slotted_model.proofs.Data.Options.{None-Some}
 use Rattle.slotted_model_rules.specs.Patterns.{variable}
 use Rattle.slotted_model_rules.specs.Matcher.{NodeArgs, no_more, an_id, a_binder, MatchState, value_at, Found, class_id}
 use Rattle.slotted_model_rules.specs.Matcher.{start_at, Reads}

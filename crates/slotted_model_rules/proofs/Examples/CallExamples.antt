@@ -1,10 +1,10 @@
 -- Laws of structural writes held against four graphs, each made from the one before: the empty one, (h $0 $1), the
 -- equation of it with (h $1 $0), which lists an open symmetry, and (k (h $0 $1)). And against the words a and b.
 use Rattle.std.proofs.Common.{◌≡◌, ◌≢◌, ◌⊎◌, ◌≤◌, ◌<◌, ℕ, zero, suc, [], ◌∷◌, refl, ap, arith}
+use Rattle.slotted_lists.proofs.Contained.{contains_head, Contains-nil}
 use Rattle.slotted_theory.specs.Nameless.{DTerm, stop}
 use Rattle.slotted_theory.specs.Derives.{Equal, listed}
 use Rattle.slotted_theory.specs.Shape.{shape}
-use Rattle.slotted_theory.proofs.Lists.{contains_head, Contains-nil}
 use Rattle.slotted_theory.proofs.Values.{node, child_before}
 use Rattle.slotted_model.specs.Applied.{Applied, as_term}
 use Rattle.slotted_model.specs.Classes.{canonical_node}

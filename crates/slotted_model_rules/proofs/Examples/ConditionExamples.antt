@@ -1,7 +1,7 @@
 -- Each law of conditions held against one substitution, in which ?x has the name 8 and ?y has no value, and two graphs.
 use Rattle.std.proofs.Common.{◌≡◌, ◌⊎◌, ℕ, [], ◌∷◌, Some, None, true, false, refl, sym, ◌∙◌, ap, inl, inr}
 use Rattle.std.specs.Prelude.{Contains}
-use Rattle.slotted_theory.proofs.Lists.{contains_cases, Contains-nil}
+use Rattle.slotted_lists.proofs.Contained.{contains_cases, Contains-nil}
 use Rattle.slotted_model.specs.Sessions.{nothing}
 use Rattle.slotted_model.proofs.Examples.CongruenceExample.{twice, rebuilt}
 use Rattle.slotted_model_rules.specs.Conditions.{Values, Condition, always, either, each_of, opposite, holds, asked}

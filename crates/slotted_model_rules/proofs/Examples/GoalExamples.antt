@@ -3,8 +3,8 @@
 use Rattle.std.proofs.Common.{◌≡◌, ◌≢◌, ◌∙◌, ℕ, suc, List, [], ◌∷◌, Some, None, Bool, true, false, refl, sym, ap, inl, inr, arith}
 use Rattle.std.specs.Prelude.{nat_eq}
 use Rattle.std.proofs.lemmas.Bool.{false≢true, eq-eqb}
+use Rattle.slotted_lists.proofs.Contained.{contains_head}
 use Rattle.slotted_theory.specs.Nameless.{place, stop}
-use Rattle.slotted_theory.proofs.Lists.{contains_head}
 use Rattle.slotted_model.specs.Applied.{Applied}
 use Rattle.slotted_model.specs.Find.{find}
 use Rattle.slotted_model.specs.Rest.{IsValidIn}

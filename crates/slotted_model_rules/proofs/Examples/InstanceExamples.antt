@@ -2,10 +2,10 @@
 -- of (h $0 $1) and of (k (h $0 $1)); and against n over n over the word a, in which b is put for a.
 use Rattle.std.proofs.Common.{◌≡◌, ◌≢◌, ◌⊎◌, ◌↔◌, ℕ, suc, List, [], ◌∷◌, sym, ap, refl, subst, inl, inr, arith}
 use Rattle.std.specs.Prelude.{Contains}
+use Rattle.slotted_lists.proofs.Contained.{contains_head, contains_cases}
 use Rattle.slotted_theory.specs.Nameless.{DTerm, stop, scope, moved}
 use Rattle.slotted_theory.specs.Renaming.{swapped}
 use Rattle.slotted_theory.proofs.Bijections.{to-injective, swap}
-use Rattle.slotted_theory.proofs.Lists.{contains_head, contains_cases}
 use Rattle.slotted_theory.proofs.Values.{node, child_before}
 use Rattle.slotted_model.specs.Applied.{Applied, as_term}
 use Rattle.slotted_model.specs.Classes.{term_of, IsFull}

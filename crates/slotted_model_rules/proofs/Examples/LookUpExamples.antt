@@ -2,12 +2,12 @@
 -- a slot, so an id of it may lack a name. The pattern is (lam $7 ?a), where ?a is f of 8 and a name that is lacking.
 use Rattle.std.proofs.Common.{◌≡◌, ◌⊎◌, ℕ, List, [], ◌∷◌, Some, sym, ap, refl, subst, inl, inr, arith}
 use Rattle.std.specs.Prelude.{Contains}
+use Rattle.slotted_lists.proofs.Contained.{contains_head, contains_cases}
 use Rattle.slotted_theory.specs.Term.{Term, done, name, bind}
 use Rattle.slotted_theory.specs.Nameless.{DTerm, stop, place, scope}
 use Rattle.slotted_theory.specs.Renaming.{swapped}
 use Rattle.slotted_theory.specs.Derives.{Equal}
 use Rattle.slotted_theory.proofs.Bijections.{to-injective, swap}
-use Rattle.slotted_theory.proofs.Lists.{contains_head, contains_cases}
 use Rattle.slotted_theory.proofs.Values.{node, child_before}
 use Rattle.slotted_model.specs.Applied.{Applied}
 use Rattle.slotted_model.specs.Filling.{IsFilling}

@@ -1,7 +1,7 @@
 -- What the matcher finds, and what it misses where a slot was dropped.
 use Rattle.std.proofs.Common.{◌≡◌, ℕ, zero, suc, List, [], ◌∷◌, Some, sym, ap, refl, subst, inl, inr, arith, ◌⊎◌}
 use Rattle.std.specs.Prelude.{Contains}
-use Rattle.slotted_theory.proofs.Lists.{contains_head, contains_cases, Contains-nil}
+use Rattle.slotted_lists.proofs.Contained.{contains_head, contains_cases, Contains-nil}
 use Rattle.slotted_model.specs.Applied.{Applied, as_term}
 use Rattle.slotted_model.specs.Rest.{IsValidIn}
 use Rattle.slotted_model.proofs.Examples.CompletenessExamples as dropped

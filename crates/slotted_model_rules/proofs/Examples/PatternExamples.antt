@@ -2,8 +2,9 @@
 use Rattle.std.proofs.Common.{◌≡◌, ℕ, ◌<◌, List, [], ◌∷◌, Some, None, sym, ◌∙◌, ap, refl, subst, inl, inr, arith}
 use Rattle.std.specs.Prelude.{Contains, cond}
 use Rattle.std.proofs.lemmas.Bool.{cases_Bool}
+use Rattle.slotted_lists.proofs.Contained.{contains_head, contains_cases, Contains-nil}
+use Rattle.slotted_lists.proofs.Options.{Some-same}
 use Rattle.slotted_theory.specs.Nameless.{DTerm, stop, place, scope}
-use Rattle.slotted_theory.proofs.Lists.{contains_head, contains_cases, Contains-nil}
 use Rattle.slotted_theory.specs.Renaming.{swapped}
 use Rattle.slotted_theory.specs.Decided.{numbers_eq}
 use Rattle.slotted_theory.proofs.Bijections.{to-injective, swap}
@@ -16,7 +17,7 @@ use Rattle.slotted_model.specs.Rest.{IsValidIn, AtRest}
 use Rattle.slotted_model.proofs.Examples.CongruenceExample.{made-rests}
 use Rattle.slotted_model.proofs.Rebuilding.Asserting.{nothing-rests}
 use Rattle.slotted_model.proofs.Finds.NormalIds.{full-is_valid}
-use Rattle.slotted_model.proofs.Data.Options.{Some-same, None-Some}
+use Rattle.slotted_model.proofs.Data.Options.{None-Some}
 use Rattle.slotted_model.proofs.Examples.RestExamples.{empty, made}
 use Rattle.slotted_model_rules.specs.Patterns.{Pattern, pattern_node, variable, no_argument, child_pattern, binding, look_up_pattern, Matches}
 use Rattle.slotted_model_rules.specs.Instances.{is_itself, IsInstance}

@@ -2,9 +2,9 @@
 -- (lam $9 (app (var $9) (var $8)))[(var $8) := (var $7)] is walked from the bottom up.
 use Rattle.std.proofs.Common.{◌≡◌, ◌≢◌, ◌⊎◌, ℕ, zero, suc, ◌<◌, List, [], ◌∷◌, ap, refl, inl, inr, arith}
 use Rattle.std.specs.Prelude.{Contains}
+use Rattle.slotted_lists.proofs.Contained.{contains_head, Contains-nil}
 use Rattle.slotted_theory.specs.Nameless.{DTerm, stop, place, scope, moved}
 use Rattle.slotted_theory.specs.Shape.{free_names, shape}
-use Rattle.slotted_theory.proofs.Lists.{contains_head, Contains-nil}
 use Rattle.slotted_theory.proofs.Values.{node, child_before}
 use Rattle.slotted_model.specs.Applied.{Applied, as_term}
 use Rattle.slotted_model.specs.Classes.{canonical_node, canonical_slots, term_of, IsFull}

@@ -2,13 +2,13 @@
 -- one, and a value that stands in itself.
 use Rattle.std.proofs.Common.{◌≡◌, ◌≢◌, ◌⊎◌, ℕ, [], ◌∷◌, ap, sym, ◌∙◌, refl, inl, inr, arith}
 use Rattle.std.specs.Prelude.{Contains}
+use Rattle.slotted_lists.proofs.Contained.{contains_head, contains_cases, Contains-nil}
 use Rattle.slotted_theory.specs.Term.{Term}
 use Rattle.slotted_theory.specs.Nameless.{DTerm, stop, place, scope, nameless, Alpha}
 use Rattle.slotted_theory.specs.Renaming.{swapped}
 use Rattle.slotted_theory.specs.Derives.{Equal, listed}
 use Rattle.slotted_theory.specs.Shape.{free_names}
 use Rattle.slotted_theory.proofs.Bijections.{to-injective, swap}
-use Rattle.slotted_theory.proofs.Lists.{contains_head, contains_cases, Contains-nil}
 use Rattle.slotted_theory.proofs.Values.{child_before}
 use Rattle.slotted_model.specs.Trees.{IsTree}
 use Rattle.slotted_model.proofs.Data.Parts.{first_name}

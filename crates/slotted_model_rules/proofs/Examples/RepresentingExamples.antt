@@ -1,10 +1,10 @@
 -- What represents a body: with the pair of (app (var $5) (var $6)) and (var $6) an app of two names is represented by its second.
 use Rattle.std.proofs.Common.{◌≡◌, ℕ, List, [], ◌∷◌, false, refl, inl, inr, arith}
 use Rattle.std.specs.Prelude.{Contains, IsTrue}
+use Rattle.slotted_lists.proofs.Contained.{contains_head, contains_tail}
 use Rattle.slotted_theory.specs.Nameless.{DTerm, nameless, moved}
 use Rattle.slotted_theory.specs.Renaming.{Bijection, swapped}
 use Rattle.slotted_theory.proofs.Bijections.{to-injective, swap}
-use Rattle.slotted_theory.proofs.Lists.{contains_head, contains_tail}
 use Rattle.slotted_model.specs.Classes.{term_of}
 use Rattle.slotted_model.proofs.Examples.CongruenceExample.{twice, id, id_full}
 use Rattle.slotted_model.proofs.Represented.Fillings.{fills-itself}

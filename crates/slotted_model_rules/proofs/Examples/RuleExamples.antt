@@ -3,8 +3,8 @@
 use Rattle.std.proofs.Common.{◌≡◌, ◌∙◌, ◌<◌, ℕ, zero, suc, List, [], ◌∷◌, Some, None, true, false, get_or, sym, ap, refl, subst, inl, inr, arith}
 use Rattle.std.specs.Prelude.{Contains, ◌≢◌, nat_eq, not}
 use Rattle.std.proofs.lemmas.List.{append-nil}
+use Rattle.slotted_lists.proofs.Contained.{contains_head, contains_cases, Contains-nil}
 use Rattle.slotted_theory.specs.Nameless.{DTerm}
-use Rattle.slotted_theory.proofs.Lists.{contains_head, contains_cases, Contains-nil}
 use Rattle.slotted_theory.specs.Derives.{Equal}
 use Rattle.slotted_model.specs.Applied.{Applied, renamed_id}
 use Rattle.slotted_model.specs.Changes.{finds_alike}
@@ -19,12 +19,12 @@ use Rattle.slotted_model.specs.Adding.{stands}
 use Rattle.slotted_model.specs.Sessions.{nothing}
 use Rattle.slotted_model.proofs.Rebuilding.Adding.{adds as class-added}
 use Rattle.slotted_model.proofs.Rebuilding.Asserting.{nothing-rests}
-use Rattle.slotted_model.proofs.Correspondences.Pairs.{Contains-key}
 use Rattle.slotted_model.proofs.Examples.CongruenceExample.{twice, twice_rests, id, id_full, rebuilt, words_asserted, rebuilt_done}
 use Rattle.slotted_model.proofs.Examples.OpenSessionsExample.{h_of, with_h, h_is_new, h_full, open_state, opens}
 use Rattle.slotted_model.proofs.Finds.NormalIds.{full-is_valid}
 use Rattle.slotted_model.proofs.Rebuilding.Quiet.{proofs-quiet}
 use Rattle.slotted_model.proofs.Examples.SessionExample.{files}
+use Rattle.slotted_model.proofs.Represented.Fillings.{fills-itself}
 use Rattle.slotted_model_rules.specs.Patterns.{Pattern, pattern_node, variable, own_name, no_argument, look_up_pattern}
 use Rattle.slotted_model_rules.specs.Instances.{is_itself, IsInstance}
 use Rattle.slotted_model_rules.specs.Matcher.{MatchState, Reads}
@@ -179,9 +179,6 @@ pub with_h_rests : AtRest with_h
 with_h_rests =
     (class-added nothing nothing-rests (h_of 0 1) h_is_new with_h (files nothing (h_of 0 1) (λ s c. c) (λ r k. absurd (Contains-nil r k)) (refl, λ y k. absurd (Contains-nil y k)))).rest
 
-full_fills : (nodes : List DTerm) (given : List ℕ) (a : Applied) → IsFull nodes a → IsFilling nodes given a a
-full_fills nodes given a full = record { class = refl; full = full; keeps = λ s x c. c; fresh = λ s x c n k. n (Contains-key a.1 s x c) }
-
 turned_round : AssertsInstances nothing_else is_itself [] h_is_h [] with_h open_state
 turned_round = record {
   built = with_h;
@@ -192,8 +189,8 @@ turned_round = record {
   right_answers = inr (h_full 1 0 (λ e. omega arith), (_, refl, (_, refl, (_, refl, refl))));
   left_filled = left_id;
   right_filled = right_id;
-  left_fills = full_fills with_h.nodes (1 ∷ 0 ∷ []) left_id (h_full 0 1 (λ e. omega arith));
-  right_fills = full_fills with_h.nodes (0 ∷ 1 ∷ []) right_id (h_full 1 0 (λ e. omega arith));
+  left_fills = fills-itself with_h.nodes (1 ∷ 0 ∷ []) left_id (h_full 0 1 (λ e. omega arith));
+  right_fills = fills-itself with_h.nodes (0 ∷ 1 ∷ []) right_id (h_full 1 0 (λ e. omega arith));
   asserts = opens;
 }
 

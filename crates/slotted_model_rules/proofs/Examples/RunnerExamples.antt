@@ -2,8 +2,9 @@
 -- (app s a) makes 3 nodes 6, and then adds 2 each time, of which one class is united with another.
 use Rattle.std.proofs.Common.{◌≡◌, ℕ, suc, zero, ◌+◌, ◌-◌, ◌*◌, List, [], ◌∷◌, ◌++◌, length, Option, Some, None, Bool, true, false, sym, ◌∙◌, ap, refl, subst, ◌≤◌, arith}
 use Rattle.std.specs.Prelude.{cond, nat_eq, option_map}
+use Rattle.slotted_lists.proofs.Options.{Some-same}
 use Rattle.slotted_theory.specs.Decided.{numbers_eq}
-use Rattle.slotted_model.proofs.Data.Options.{Some-same, None-Some}
+use Rattle.slotted_model.proofs.Data.Options.{None-Some}
 use Rattle.slotted_model_rules.specs.Runners.{none_searched, one_searched, none_applied, one_applied, AppliesRules, Stop, saturated, iteration_limit, time_limit, node_limit, other, Limits, usual_limits, runner_stop, eqsat_stop, second, Measures, Iteration, Report, after_check, RunnerTurn, RunnerRuns, stops_now, goes_on, RunnerRefuses, refused_now, refused_later, Runner, runner_report, RunnerAnswers, starts, after_time, EqsatTurn, EqsatRuns, eqsat_stops, eqsat_goes_on, eqsat_report, EqsatAnswers}
 use Rattle.slotted_model_rules.specs.RunnerClaims.{EachExtends}
 use Rattle.slotted_model_rules.proofs.Rules.Turns.{a-run, rules-extend}

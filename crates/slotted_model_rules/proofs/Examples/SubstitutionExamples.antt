@@ -1,10 +1,10 @@
 -- Substitutions on small terms, computed: var is operator 1, lam 2, app 3, and a word 4.
 use Rattle.std.proofs.Common.{◌≡◌, ◌≢◌, ℕ, [], ◌∷◌, length, ap, refl, inl, inr, arith}
 use Rattle.std.specs.Prelude.{Contains}
+use Rattle.slotted_lists.proofs.Contained.{Contains-nil, contains_cases}
 use Rattle.slotted_theory.specs.Term.{Term, done, name, bind}
 use Rattle.slotted_theory.specs.Nameless.{DTerm, nameless}
 use Rattle.slotted_theory.specs.Shape.{free_names}
-use Rattle.slotted_theory.proofs.Lists.{Contains-nil, contains_cases}
 use Rattle.slotted_model_rules.specs.Substitution.{named_node, named_before, substituted, StandsIn, replaced, HasOthersBound}
 use Rattle.slotted_model_rules.proofs.Substitutions.Substituting.{kept-substituted}
 use Rattle.slotted_model_rules.proofs.Substitutions.Replacing.{replaced-substituted}

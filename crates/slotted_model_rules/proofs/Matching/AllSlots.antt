@@ -1,9 +1,11 @@
 -- Where no class has dropped a slot: what a full id finds has all of its names, and full ids that find alike are the same.
-use Rattle.std.proofs.Common.{◌≡◌, ℕ, List, [], ◌∷◌, ◌++◌, sym, ◌∙◌, ap, refl, subst, inl, inr}
+use Rattle.std.proofs.Common.{◌≡◌, ℕ, List, [], ◌∷◌, ◌++◌, sym, ◌∙◌, ap, subst, inl, inr}
 use Rattle.std.specs.Prelude.{Contains}
 use Rattle.std.specs.Map.{values_of}
+use Rattle.slotted_lists.proofs.Members.{In, In-left, In-right, In-map, In-of_map, In-Contains, Contains-In}
+use Rattle.slotted_lists.proofs.Maps.{with_values-agree}
 use Rattle.slotted_theory.specs.Nameless.{DTerm, moved}
-use Rattle.slotted_theory.specs.FiniteMaps.{filled, with_values}
+use Rattle.slotted_theory.specs.FiniteMaps.{filled}
 use Rattle.slotted_theory.specs.Renaming.{IsInjective}
 use Rattle.slotted_theory.specs.Shape.{free_names}
 use Rattle.slotted_theory.proofs.ByBijection.{moved-injective}
@@ -25,7 +27,6 @@ use Rattle.slotted_model.proofs.Finds.Finding.{leads, find_map-partial}
 use Rattle.slotted_model.proofs.Represented.Folds.{as_term-same}
 use Rattle.slotted_model.proofs.Represented.Full.{full-ascending}
 use Rattle.slotted_model.proofs.Data.Maps.{pair-filled}
-use Rattle.slotted_model.proofs.Data.Members.{In, In-left, In-right, In-map, In-of_map, In-Contains, Contains-In}
 use Rattle.slotted_model.proofs.Finds.NormalIds.{of_used, valid-map, full-is_valid, found-name}
 use Rattle.slotted_model.proofs.Represented.RenamedIds.{node_of-renamed, normal-moves}
 use Rattle.slotted_model.proofs.Rebuilding.RowNodes.{row_node, row-normal, node-valid}
@@ -50,13 +51,9 @@ different-parts (x ∷ xs) ys d =
 pub renamed-injective : (f : ℕ → ℕ) → IsInjective f → (a b : Applied) → renamed_id f a ≡ renamed_id f b → a ≡ b
 renamed-injective f inj a b e = as_term-same a b (moved-injective f inj (as_term a) (as_term b) (moved-as_term f a ∙ (ap as_term e ∙ sym (moved-as_term f b))))
 
-values-agree : (f g : ℕ → ℕ) (m : List (ℕ × ℕ)) → ((z : ℕ) → In z (values m) → f z ≡ g z) → with_values f m ≡ with_values g m
-values-agree f g [] h = refl
-values-agree f g (p ∷ m) h = λ i. (p.0, h p.1 (inl refl) i) ∷ values-agree f g m (λ z k. h z (inr k)) i
-
 -- two functions that agree on an id's names rename it alike
 pub renamed-agrees : (f g : ℕ → ℕ) (a : Applied) → ((z : ℕ) → In z (values a.1) → f z ≡ g z) → renamed_id f a ≡ renamed_id g a
-renamed-agrees f g a h = ap (λ m. (a.0, m)) (values-agree f g a.1 h)
+renamed-agrees f g a h = ap (λ m. (a.0, m)) (with_values-agree f g a.1 h)
 
 -- what is found has no other names
 pub found-values : (g : State) (a : Applied) (z : ℕ) → In z (values (find g.found a).1) → In z (values a.1)

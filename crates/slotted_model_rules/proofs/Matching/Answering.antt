@@ -3,6 +3,7 @@ use Rattle.std.proofs.Common.{◌≡◌, ◌⊎◌, ℕ, List, [], ◌∷◌, �
 use Rattle.std.specs.Prelude.{cond, option_map, option_and_then}
 use Rattle.std.proofs.lemmas.Bool.{cases_Bool}
 use Rattle.std.proofs.Math.Path.{fun_ext}
+use Rattle.slotted_lists.proofs.Members.{In}
 use Rattle.slotted_theory.specs.Nameless.{DTerm, place, scope, extend, lift, moved, moved_args}
 use Rattle.slotted_theory.specs.Renaming.{IsInjective}
 use Rattle.slotted_theory.specs.Decided.{numbers_eq}
@@ -17,7 +18,6 @@ use Rattle.slotted_model.specs.Normal.{normal_args}
 use Rattle.slotted_model.specs.State.{Row, State, look_up_node}
 use Rattle.slotted_model.specs.Rest.{AtRest}
 use Rattle.slotted_model.proofs.Represented.Children.{moved-as_term}
-use Rattle.slotted_model.proofs.Data.Members.{In}
 use Rattle.slotted_model.proofs.Finds.NormalIds.{found-renamed}
 use Rattle.slotted_model.proofs.Data.Options.{None-Some}
 use Rattle.slotted_model.proofs.Represented.RenamedIds.{normal-moves}

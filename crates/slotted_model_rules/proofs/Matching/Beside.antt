@@ -2,6 +2,10 @@
 use Rattle.std.proofs.Common.{◌≡◌, ℕ, suc, List, [], ◌∷◌, ◌++◌, Option, Some, None, map, sym, ◌∙◌, ap, refl, subst, inl, inr, arith}
 use Rattle.std.specs.Prelude.{◌⊎◌, Contains, option_and_then, cond}
 use Rattle.std.proofs.lemmas.Bool.{cases_eq, cases_Bool, eq-eqb}
+use Rattle.slotted_lists.proofs.Contained.{contains_cases}
+use Rattle.slotted_lists.proofs.Members.{In, In-left, In-right, In-append, In-map, Contains-In}
+use Rattle.slotted_lists.proofs.Options.{Some-same}
+use Rattle.slotted_lists.proofs.Maps.{values-with_values}
 use Rattle.slotted_theory.specs.Nameless.{DArgs, stop, place, scope, extend}
 use Rattle.slotted_theory.specs.FiniteMaps.{value_of, with_values}
 use Rattle.slotted_theory.specs.Renaming.{IsInjective}
@@ -15,12 +19,10 @@ use Rattle.slotted_model.specs.Rest.{AtRest}
 use Rattle.slotted_model.proofs.Represented.Children.{free_names-places}
 use Rattle.slotted_model.proofs.Correspondences.Pairs.{Contains-value_of, Contains-of_value, value_of-found}
 use Rattle.slotted_model.proofs.Represented.Folds.{as_term-same}
-use Rattle.slotted_model.proofs.Data.Maps.{values-with_values}
-use Rattle.slotted_model.proofs.Data.Members.{In, In-left, In-right, In-append, In-map, In-outside, Contains-In}
-use Rattle.slotted_model.proofs.Data.Options.{Some-same, None-Some, option_map-some, both-some}
+use Rattle.slotted_model.proofs.Data.Members.{In-outside}
+use Rattle.slotted_model.proofs.Data.Options.{None-Some, option_map-some, both-some}
 use Rattle.slotted_model.proofs.Data.Parts.{kind, first_name, first_child, first_scope, after_first}
 use Rattle.slotted_model.proofs.Complete.Spreading.{has_slot-in}
-use Rattle.slotted_theory.proofs.Lists.{contains_cases}
 use Rattle.slotted_model_rules.specs.Complete.{own_binders}
 use Rattle.slotted_model_rules.specs.Patterns.{PatternArgs, no_argument, own_name, child_pattern, binding, look_up_pattern, look_up_arguments}
 use Rattle.slotted_model_rules.specs.Matcher.{NodeArgs, no_more, a_name, an_id, a_binder, unnamed, written_names, bound_names, rest_of, inside_first, paired_with, paired, walked}

@@ -3,21 +3,24 @@ use Rattle.std.proofs.Common.{◌≡◌, ◌≢◌, ◌⊎◌, ℕ, suc, List, [
 use Rattle.std.specs.Prelude.{Contains, cond}
 use Rattle.std.proofs.lemmas.Bool.{cases_Bool, cases_eq}
 use Rattle.std.proofs.Math.Nat.{suc-ne-zero, suc_inj}
+use Rattle.slotted_lists.proofs.Contained.{Contains-nil}
+use Rattle.slotted_lists.proofs.Members.{In, In-left, In-right, In-append, In-map, In-of_map, In-Contains, Contains-In}
+use Rattle.slotted_lists.proofs.Options.{Some-same}
+use Rattle.slotted_lists.proofs.Maps.{values-with_values}
 use Rattle.slotted_theory.specs.Nameless.{DArgs, DTerm, stop, place, scope, extend, moved_args}
 use Rattle.slotted_theory.specs.Decided.{numbers_eq}
-use Rattle.slotted_theory.specs.FiniteMaps.{filled, with_values}
+use Rattle.slotted_theory.specs.FiniteMaps.{filled}
 use Rattle.slotted_theory.specs.Renaming.{IsInjective}
 use Rattle.slotted_theory.specs.Shape.{outside, free_names}
 use Rattle.slotted_theory.proofs.Bijections.{to-injective}
 use Rattle.slotted_theory.proofs.Decides.{numbers_eq-true}
 use Rattle.slotted_theory.proofs.Filled.{filled-injective}
-use Rattle.slotted_theory.proofs.Lists.{Contains-nil}
 use Rattle.slotted_theory.proofs.Names.{extend-same, extend-other, extend-injective}
 use Rattle.slotted_theory.proofs.Values.{node, child_before}
 use Rattle.slotted_model.specs.Affected.{id_eq}
 use Rattle.slotted_model.specs.Applied.{Applied, keys, values, map_on, renamed_id, as_term, EachChild}
 use Rattle.slotted_model.specs.Classes.{IsFull}
-use Rattle.slotted_model.specs.Correspondence.{AllDifferent, identity}
+use Rattle.slotted_model.specs.Correspondence.{AllDifferent}
 use Rattle.slotted_model.specs.Find.{find_class, find_map, used_slots, find, Linked}
 use Rattle.slotted_model.specs.Ascending.{ascending}
 use Rattle.slotted_model.specs.State.{Row, State, filed_node, normal_node, look_up_node}
@@ -25,10 +28,10 @@ use Rattle.slotted_model.specs.Rest.{IsValidIn, IsCurrent, AtRest}
 use Rattle.slotted_model.proofs.Rebuilding.Answers.{RowAnswer, answer-row}
 use Rattle.slotted_model.proofs.Data.Extension.{Different, Extension, extension}
 use Rattle.slotted_model.proofs.Represented.Full.{full-ascending, full-renamed}
-use Rattle.slotted_model.proofs.Data.Maps.{map_on-filled, pair-filled, filled-pair, values-with_values}
-use Rattle.slotted_model.proofs.Data.Members.{In, In-left, In-right, In-append, In-map, In-of_map, In-inside, In-Contains, Contains-In}
+use Rattle.slotted_model.proofs.Data.Maps.{map_on-filled, pair-filled, filled-pair}
+use Rattle.slotted_model.proofs.Data.Members.{In-inside}
 use Rattle.slotted_model.proofs.Finds.NormalIds.{values-identity, used-by, found-renamed, found-slots, found-name}
-use Rattle.slotted_model.proofs.Data.Options.{option_map-some, both-some, and_then-some, Some-same, None-Some}
+use Rattle.slotted_model.proofs.Data.Options.{option_map-some, both-some, and_then-some, None-Some}
 use Rattle.slotted_model.proofs.Represented.Children.{free_names-places}
 use Rattle.slotted_model.proofs.Correspondences.Pairs.{Contains-value, Contains-of_value}
 use Rattle.slotted_model.proofs.Rebuilding.Rows.{rest-current}
@@ -36,6 +39,7 @@ use Rattle.slotted_model.proofs.Data.Sets.{In-of_ascending}
 use Rattle.slotted_model.proofs.Data.Theory.{free_names-moved}
 use Rattle.slotted_model.proofs.Rebuilding.RowNodes.{row_node, row-normal}
 use Rattle.slotted_model.proofs.Represented.Ids.{term_eq-same}
+use Rattle.slotted_model.proofs.Rebuilding.FoundEntries.{identity-names}
 use Rattle.slotted_model_rules.specs.Complete.{HasAllSlots, HasOwnBinders, IsFreeInPattern, IsFreeInArguments, own_binders, binders_of, child_binders}
 use Rattle.slotted_model_rules.specs.Patterns.{Pattern, PatternArgs, pattern_node, variable, replacing, no_argument, own_name, child_pattern, binding, EachVariable, EachVariableIn, look_up_pattern, look_up_arguments, IsOfRow}
 use Rattle.slotted_model_rules.specs.Matcher.{NodeArgs, an_id, a_binder, unnamed, written_names, bound_names, rest_of, id_of_first, inside_first, MatchState, value_at, walked, IsNodeOf, IsRowFor, Gives, IfThere, with_value, Found, FoundIn, class_id, start_at, Reads}
@@ -418,10 +422,6 @@ module _ (g : State) (rest : AtRest g) (σ : List ℕ → Applied) where
           | inr k ↦ let m = arguments-free ρ inj others valid.1 r.1 r.3 z k in (m.0, inr m.1, m.2)
         ]
 
-identity-by : (f : ℕ → ℕ) (S : List ℕ) → with_values f (identity S) ≡ map_on f S
-identity-by f [] = refl
-identity-by f (s ∷ S) = ap (λ l. (s, f s) ∷ l) (identity-by f S)
-
 -- each substitution whose look-up is an id is read off a state that is found at the id's class
 pub finds-all : (g : State) (rest : AtRest g) → HasAllSlots g → (order : List Row) → ((r : Row) → Contains g.rows r → Contains order r) → (σ : List ℕ → Applied) (p : Pattern) → EachVariable (λ v. IsValidIn g (σ v)) p → HasOwnBinders σ p → (x : Applied) → look_up_pattern g (λ y. y) σ p ≡ Some x →
     (outs : List MatchState) → Found g order p (start_at g x.0) (class_id g x.0) outs → (out : MatchState) × Contains outs out × (f : ℕ → ℕ) × Reads g f σ out
@@ -432,7 +432,7 @@ finds-all g rest all order has σ p valid own x e outs found =
     let f : ℕ → ℕ = filled x.1 in
     let inj : IsInjective f = filled-injective x.1 form.0.injective in
     let a : Applied = class_id g x.0 in
-    let is_x : renamed_id f a ≡ x = ap (λ m. (x.0, m)) (identity-by f S ∙ (ap (map_on f) (sym slots) ∙ map_on-filled x.1 form.0.ascending)) in
+    let is_x : renamed_id f a ≡ x = ap (λ m. (x.0, m)) (identity-names f S ∙ (ap (map_on f) (sym slots) ∙ map_on-filled x.1 form.0.ascending)) in
     let found_a : find g.found a ≡ a = renamed-injective f inj (find g.found a) a (sym (found-renamed g.found f a) ∙ (ap (find g.found) is_x ∙ (form.1 ∙ sym is_x))) in
     let look : look_up_pattern g (λ y. y) σ p ≡ Some (renamed_id f (find g.found a)) = e ∙ ap Some (sym is_x ∙ ap (renamed_id f) (sym found_a)) in
     let seen : (z : ℕ) → In z (values (find g.found a).1) → Contains S z = λ z i. Contains-In S z (subst (In z) (values-identity S) (subst (λ (c : Applied). In z (values c.1)) found_a i)) in

@@ -2,13 +2,13 @@
 use Rattle.std.proofs.Common.{◌≡◌, ℕ, suc, List, [], ◌∷◌, ◌++◌, ◌+◌, ◌⊎◌, length, length-append, Option, Some, None, Bool, true, false, sym, ◌∙◌, ap, refl, subst, inl, inr, arith}
 use Rattle.std.specs.Prelude.{◌↔◌, Contains, option_and_then, cond, filter, ◌&&◌}
 use Rattle.std.proofs.lemmas.Bool.{cases_Bool, false≢true}
+use Rattle.slotted_lists.proofs.Contained.{Contains-nil}
+use Rattle.slotted_lists.proofs.Members.{In, In-append, In-Contains, Contains-In}
 use Rattle.slotted_theory.specs.Nameless.{DArgs, stop, place, sub, scope, extend, lift, moved_args}
 use Rattle.slotted_theory.specs.FiniteMaps.{filled}
-use Rattle.slotted_theory.proofs.Lists.{Contains-nil}
 use Rattle.slotted_model.specs.Applied.{Applied, EachChild}
 use Rattle.slotted_model.specs.State.{Row, State, filed_node}
 use Rattle.slotted_model.specs.Rest.{IsValidIn, AtRest}
-use Rattle.slotted_model.proofs.Data.Members.{In, In-append, In-Contains, Contains-In}
 use Rattle.slotted_model_rules.specs.Patterns.{Pattern, PatternArgs, pattern_node, no_argument, own_name, child_pattern, binding}
 use Rattle.slotted_model_rules.specs.Matcher.{NodeArgs, no_more, a_name, an_id, a_binder, unnamed, MatchState, paired, walked, IsRowFor, IsNodeOf, Gives, IfThere}
 use Rattle.slotted_model_rules.specs.Goals.{FoundAll, goals_of, AtRow, after_walk, own_slots, own_names, paired_all, outlines_agree, has_outline}
@@ -128,7 +128,7 @@ outline-moved f (binding x inner rest) (place y d) = refl
 outline-moved f (binding x inner rest) (sub op payloads args d) = refl
 
 -- so a node of the matcher's has the outline of its row's shape
-node-outline : (g : State) (seen : List ℕ) (r : Row) (a : Applied) (n : NodeArgs) (args : PatternArgs) → IsNodeOf g seen r a n → outlines_agree args n ≡ has_outline args r.shape.args
+pub node-outline : (g : State) (seen : List ℕ) (r : Row) (a : Applied) (n : NodeArgs) (args : PatternArgs) → IsNodeOf g seen r a n → outlines_agree args n ≡ has_outline args r.shape.args
 node-outline g seen r a n args is =
     sym (outline-unnamed (λ y. y) args n)
     ∙ (ap (has_outline args) is.form ∙ (outline-moved (filled is.id.1) args (filed_node r).args ∙ outline-moved (filled r.slots) args r.shape.args))

@@ -1,13 +1,15 @@
 -- Hidden names: those of a row's id that do not stand in its node. They can be others, so that a node is one of the matcher's if what stands in it is new.
 use Rattle.std.proofs.Common.{◌≡◌, ℕ, ◌+◌, ◌<◌, List, ◌++◌, sym, ◌∙◌, ap, refl, subst, inl, inr, arith}
 use Rattle.std.specs.Prelude.{◌⊎◌, Contains, max}
+use Rattle.slotted_lists.proofs.Contained.{above, Contains-below}
+use Rattle.slotted_lists.proofs.Members.{In, In-left, In-right, In-map, In-of_map, In-Contains, Contains-In}
+use Rattle.slotted_lists.proofs.Maps.{values-with_values}
 use Rattle.slotted_theory.specs.Nameless.{DTerm, moved}
 use Rattle.slotted_theory.specs.FiniteMaps.{filled}
 use Rattle.slotted_theory.specs.Renaming.{IsInjective}
 use Rattle.slotted_theory.specs.Shape.{free_names}
 use Rattle.slotted_theory.proofs.FreeNames.{moved-agrees}
 use Rattle.slotted_theory.proofs.Laws.{moved-id}
-use Rattle.slotted_theory.proofs.Lists.{above, Contains-below}
 use Rattle.slotted_model.specs.Applied.{Applied, values, renamed_id}
 use Rattle.slotted_model.specs.Ascending.{ascending}
 use Rattle.slotted_model.specs.Classes.{IsFull}
@@ -19,8 +21,7 @@ use Rattle.slotted_model.specs.State.{Row, State, filed_node, normal_node}
 use Rattle.slotted_model.specs.Rest.{IsCurrent, AtRest}
 use Rattle.slotted_model.proofs.Correspondences.Pairs.{Contains-value, Contains-of_value}
 use Rattle.slotted_model.proofs.Represented.Full.{full-ascending, full-renamed}
-use Rattle.slotted_model.proofs.Data.Maps.{filled-pair, values-with_values}
-use Rattle.slotted_model.proofs.Data.Members.{In, In-left, In-right, In-map, In-of_map, In-Contains, Contains-In}
+use Rattle.slotted_model.proofs.Data.Maps.{filled-pair}
 use Rattle.slotted_model.proofs.Finds.NormalIds.{used-by, found-renamed, found-name}
 use Rattle.slotted_model.proofs.Represented.RenamedIds.{node_of-renamed, normal-moves}
 use Rattle.slotted_model.proofs.Rebuilding.Rows.{rest-current}

@@ -2,6 +2,9 @@
 use Rattle.std.proofs.Common.{◌≡◌, ◌≢◌, ℕ, ◌+◌, ◌<◌, List, [], ◌∷◌, Option, Some, None, map, sym, ◌∙◌, ap, refl, subst, inl, inr, arith}
 use Rattle.std.specs.Prelude.{◌⊎◌, Contains, cond, nat_eq}
 use Rattle.std.proofs.lemmas.Bool.{cases_eq, eq-eqb, ne_eqb}
+use Rattle.slotted_lists.proofs.Contained.{above, Contains-below}
+use Rattle.slotted_lists.proofs.Members.{In, In-map, In-of_map, In-Contains, Contains-In}
+use Rattle.slotted_lists.proofs.Options.{Some-same}
 use Rattle.slotted_theory.specs.Nameless.{DTerm, moved, moved_args}
 use Rattle.slotted_theory.specs.FiniteMaps.{filled}
 use Rattle.slotted_theory.specs.Renaming.{IsInjective}
@@ -9,7 +12,6 @@ use Rattle.slotted_theory.specs.Shape.{free_names}
 use Rattle.slotted_theory.proofs.Filled.{filled-injective}
 use Rattle.slotted_theory.proofs.FreeNames.{moved-agrees}
 use Rattle.slotted_theory.proofs.Laws.{moved-moved}
-use Rattle.slotted_theory.proofs.Lists.{above, Contains-below}
 use Rattle.slotted_model.specs.Applied.{Applied, values, renamed_id}
 use Rattle.slotted_model.specs.Classes.{canonical_slots, IsFull}
 use Rattle.slotted_model.specs.Correspondence.{AllDifferent, IsInjectiveOn, IsPartialInjection}
@@ -22,9 +24,8 @@ use Rattle.slotted_model.proofs.Correspondences.PartialInjections.{one_partner}
 use Rattle.slotted_model.proofs.Finds.Finding.{leads, find_map-partial}
 use Rattle.slotted_model.proofs.Represented.Full.{full-ascending, full-renamed}
 use Rattle.slotted_model.proofs.Data.Maps.{filled-pair}
-use Rattle.slotted_model.proofs.Data.Members.{In, In-map, In-of_map, In-Contains, Contains-In}
 use Rattle.slotted_model.proofs.Finds.NormalIds.{found-renamed, found-name}
-use Rattle.slotted_model.proofs.Data.Options.{Some-same, None-Some}
+use Rattle.slotted_model.proofs.Data.Options.{None-Some}
 use Rattle.slotted_model.proofs.Data.Theory.{free_names-moved}
 use Rattle.slotted_model.proofs.Rebuilding.RowNodes.{row_node, row-id}
 use Rattle.slotted_model_rules.specs.Patterns.{IsOfRow}

@@ -2,22 +2,23 @@
 use Rattle.std.proofs.Common.{◌≡◌, ℕ, ◌<◌, List, [], ◌∷◌, ◌++◌, Option, Some, None, Bool, true, false, sym, ◌∙◌, ap, refl, subst, inl, inr}
 use Rattle.std.specs.Prelude.{Contains, option_and_then, cond, map, unwrap_or}
 use Rattle.std.proofs.lemmas.Bool.{cases_eq, cases_Bool, eq-eqb, ne_eqb, false≢true}
+use Rattle.slotted_lists.proofs.Contained.{Contains-nil, contains_cases, above, Contains-below}
+use Rattle.slotted_lists.proofs.Members.{In, In-left, In-right, In-map, In-Contains, Contains-In}
+use Rattle.slotted_lists.proofs.Maps.{value_of-first, value_of-rest}
+use Rattle.slotted_lists.proofs.Options.{Some-same}
 use Rattle.slotted_theory.specs.FiniteMaps.{value_of, IsInjectiveMap, filled}
 use Rattle.slotted_theory.specs.Renaming.{Bijection}
 use Rattle.slotted_theory.specs.Decided.{numbers_eq}
 use Rattle.slotted_theory.proofs.Bijections.{then, opposite, bijection_below, Agrees as AgreesBelow}
 use Rattle.slotted_theory.proofs.Filled.{filled-value_of, filled-injective}
-use Rattle.slotted_theory.proofs.Lists.{Contains-nil, contains_cases, above, Contains-below}
 use Rattle.slotted_model.specs.Affected.{id_eq}
 use Rattle.slotted_model.specs.Applied.{Applied, values, renamed_id}
 use Rattle.slotted_model.specs.Correspondence.{has_slot}
 use Rattle.slotted_model.specs.Find.{find}
 use Rattle.slotted_model.specs.State.{Row, State}
-use Rattle.slotted_model.proofs.Correspondences.Pairs.{value_of-same, value_of-other}
 use Rattle.slotted_model.proofs.Data.Maps.{In-values}
-use Rattle.slotted_model.proofs.Data.Members.{In, In-left, In-right, In-map, In-Contains, Contains-In}
 use Rattle.slotted_model.proofs.Finds.NormalIds.{found-renamed}
-use Rattle.slotted_model.proofs.Data.Options.{Some-same, None-Some, and_then-some}
+use Rattle.slotted_model.proofs.Data.Options.{None-Some, and_then-some}
 use Rattle.slotted_model.proofs.Complete.Spreading.{in-has_slot}
 use Rattle.slotted_model_rules.specs.Patterns.{Pattern, PatternArgs, pattern_node, variable, replacing, no_argument, own_name, child_pattern, binding}
 use Rattle.slotted_model_rules.specs.Matcher.{NodeArgs, no_more, a_name, an_id, a_binder, written_names, rest_of, id_of_first, inside_first, MatchState, value_at, paired_with, paired, walked, with_value, Found, FoundIn, EachSlot, EachSlotIn, class_id, start_at, Reads}
@@ -124,8 +125,8 @@ paired-map pairs y x q is e = go (value_of pairs y) refl e
       | inr h ↦ subst IsNameMap (Some-same ((y, x) ∷ pairs) q (ap (λ b. cond b None (Some ((y, x) ∷ pairs))) (sym h) ∙ p)) (record {
         injective = (λ k. false≢true (sym h ∙ in-has_slot (values pairs) x (In-values pairs x k)), is.injective);
         once = λ s t c. elim (contains_cases (y, x) pairs (s, t) c) [
-          | inl r ↦ value_of-same (y, x) pairs s (ap (λ (u : ℕ × ℕ). u.0) r) ∙ ap Some (sym (ap (λ (u : ℕ × ℕ). u.1) r))
-          | inr k ↦ value_of-other (y, x) pairs s (λ r. None-Some t (sym v ∙ (ap (value_of pairs) (sym r) ∙ is.once s t k))) ∙ is.once s t k
+          | inl r ↦ value_of-first (y, x) pairs s (ap (λ (u : ℕ × ℕ). u.0) r) ∙ ap Some (sym (ap (λ (u : ℕ × ℕ). u.1) r))
+          | inr k ↦ value_of-rest (y, x) pairs s (λ r. None-Some t (sym v ∙ (ap (value_of pairs) (sym r) ∙ is.once s t k))) ∙ is.once s t k
         ];
       })
     ]

@@ -2,10 +2,12 @@
 use Rattle.std.proofs.Common.{◌≡◌, ℕ, zero, suc, ◌+◌, ◌<◌, ◌≤◌, List, [], ◌∷◌, ◌++◌, Option, Some, None, sym, ◌∙◌, ap, refl, subst, inl, inr, arith}
 use Rattle.std.specs.Prelude.{◌⊎◌, Contains, max, cond}
 use Rattle.std.proofs.lemmas.Bool.{cases_eq, cases_Bool}
+use Rattle.slotted_lists.proofs.Contained.{above, Contains-below}
+use Rattle.slotted_lists.proofs.Members.{In, In-left, In-right, In-append, In-of_map, In-Contains, Contains-In}
+use Rattle.slotted_lists.proofs.Maps.{values-with_values}
 use Rattle.slotted_theory.specs.Nameless.{DArgs, DTerm, stop, place, sub, scope, extend}
 use Rattle.slotted_theory.specs.Renaming.{IsInjective}
 use Rattle.slotted_theory.specs.Shape.{outside, free_names}
-use Rattle.slotted_theory.proofs.Lists.{above, Contains-below}
 use Rattle.slotted_theory.proofs.Names.{extend-same, extend-other}
 use Rattle.slotted_theory.proofs.Values.{node, child_before}
 use Rattle.slotted_model.specs.Applied.{Applied, values, renamed_id, as_term, EachChild}
@@ -17,8 +19,7 @@ use Rattle.slotted_model.specs.State.{Row, State}
 use Rattle.slotted_model.specs.Rest.{IsValidIn, AtRest}
 use Rattle.slotted_model.proofs.Represented.Children.{EachChild-map, free_names-places}
 use Rattle.slotted_model.proofs.Represented.Full.{full-renamed}
-use Rattle.slotted_model.proofs.Data.Maps.{values-with_values}
-use Rattle.slotted_model.proofs.Data.Members.{In, In-left, In-right, In-append, In-of_map, In-outside, In-Contains, Contains-In}
+use Rattle.slotted_model.proofs.Data.Members.{In-outside}
 use Rattle.slotted_model.proofs.Finds.NormalIds.{found-renamed}
 use Rattle.slotted_model.proofs.Rebuilding.RowNodes.{row_node, row-id}
 use Rattle.slotted_model.proofs.Complete.Spreading.{has_slot-in, in-has_slot}

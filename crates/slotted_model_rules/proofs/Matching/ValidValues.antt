@@ -2,8 +2,11 @@
 use Rattle.std.proofs.Common.{◌≡◌, ℕ, List, [], ◌∷◌, ◌++◌, Option, Some, None, Bool, true, false, sym, ◌∙◌, ap, refl, subst, inl, inr}
 use Rattle.std.specs.Prelude.{Contains, cond, option_and_then}
 use Rattle.std.proofs.lemmas.Bool.{cases_Bool}
+use Rattle.slotted_lists.proofs.Members.{In}
+use Rattle.slotted_lists.proofs.Maps.{IsInjectiveMap-before, keys-with_values}
+use Rattle.slotted_lists.proofs.Options.{Some-same}
 use Rattle.slotted_theory.specs.Nameless.{DTerm, extend}
-use Rattle.slotted_theory.specs.FiniteMaps.{HasValue, IsInjectiveMap, with_values}
+use Rattle.slotted_theory.specs.FiniteMaps.{with_values}
 use Rattle.slotted_theory.specs.Decided.{numbers_eq}
 use Rattle.slotted_model.specs.Affected.{id_eq}
 use Rattle.slotted_model.specs.Applied.{Applied, keys, renamed_id, EachChild}
@@ -15,9 +18,7 @@ use Rattle.slotted_model.specs.Rest.{IsValidIn, AtRest}
 use Rattle.slotted_model.proofs.Represented.Children.{EachChild-map}
 use Rattle.slotted_model.proofs.Rebuilding.Events.{normal-found}
 use Rattle.slotted_model.proofs.Represented.Folds.{as_term-same}
-use Rattle.slotted_model.proofs.Data.Maps.{keys-with_values}
-use Rattle.slotted_model.proofs.Data.Members.{In}
-use Rattle.slotted_model.proofs.Data.Options.{Some-same, None-Some, and_then-some}
+use Rattle.slotted_model.proofs.Data.Options.{None-Some, and_then-some}
 use Rattle.slotted_model.proofs.Rebuilding.RowNodes.{row_node, row-normal, node-valid}
 use Rattle.slotted_model_rules.specs.Patterns.{Pattern, PatternArgs, pattern_node, variable, replacing, no_argument, own_name, child_pattern, binding, IsOfRow}
 use Rattle.slotted_model_rules.specs.Matcher.{NodeArgs, no_more, a_name, an_id, a_binder, unnamed, written_names, rest_of, id_of_first, inside_first, MatchState, value_at, paired, walked, with_value, Found, FoundIn}
@@ -45,23 +46,13 @@ walked-shaped (binding x inner rest) (a_binder y m n) pairs q e =
     (y, m, n, refl, walked-shaped inner m o.0 r.0 o.2, walked-shaped rest n r.0 q r.2)
 walked-shaped _ _ pairs q e = absurd (None-Some q e)
 
--- an id is valid if it is with other names
-value-by : (f : ℕ → ℕ) (m : List (ℕ × ℕ)) (v : ℕ) → HasValue m v → HasValue (with_values f m) (f v)
-value-by f [] v h = h
-value-by f (p ∷ m) v (inl e) = inl (ap f e)
-value-by f (p ∷ m) v (inr h) = inr (value-by f m v h)
-
-injective-from : (f : ℕ → ℕ) (m : List (ℕ × ℕ)) → IsInjectiveMap (with_values f m) → IsInjectiveMap m
-injective-from f [] h = tt
-injective-from f (p ∷ m) h = (λ k. h.0 (value-by f m p.1 k), injective-from f m h.1)
-
 module _ (g : State) where
   valid-from : (f : ℕ → ℕ) (a : Applied) → IsValidIn g (renamed_id f a) → IsValidIn g a
   valid-from f a v =
       let same : keys (with_values f a.1) ≡ keys a.1 = keys-with_values f a.1 in record {
         in_range = v.in_range;
         ascending = subst IsAscending same v.ascending;
-        injective = injective-from f a.1 v.injective;
+        injective = IsInjectiveMap-before f a.1 v.injective;
         has_slots = λ s c. subst (λ ks. Contains ks s) same (v.has_slots s c);
         within = λ s c. v.within s (subst (λ ks. Contains ks s) (sym same) c);
       }

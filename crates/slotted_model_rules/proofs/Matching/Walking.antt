@@ -2,13 +2,14 @@
 use Rattle.std.proofs.Common.{◌≡◌, ℕ, List, [], ◌∷◌, Option, Some, None, sym, ◌∙◌, ap, refl, subst, inl, inr}
 use Rattle.std.specs.Prelude.{Contains, option_and_then, cond}
 use Rattle.std.proofs.lemmas.Bool.{cases_eq, cases_Bool, eq-eqb, ne_eqb}
+use Rattle.slotted_lists.proofs.Contained.{contains_head, contains_tail}
+use Rattle.slotted_lists.proofs.Members.{In, In-append}
+use Rattle.slotted_lists.proofs.Options.{Some-same}
 use Rattle.slotted_theory.specs.FiniteMaps.{value_of}
-use Rattle.slotted_theory.proofs.Lists.{contains_head, contains_tail}
 use Rattle.slotted_model.specs.Applied.{Applied, values}
 use Rattle.slotted_model.specs.Correspondence.{has_slot}
 use Rattle.slotted_model.proofs.Correspondences.Pairs.{Contains-value_of}
-use Rattle.slotted_model.proofs.Data.Members.{In, In-append}
-use Rattle.slotted_model.proofs.Data.Options.{Some-same, None-Some, and_then-some}
+use Rattle.slotted_model.proofs.Data.Options.{None-Some, and_then-some}
 use Rattle.slotted_model_rules.specs.Patterns.{PatternArgs, no_argument, own_name, child_pattern, binding}
 use Rattle.slotted_model_rules.specs.Matcher.{NodeArgs, no_more, a_name, an_id, a_binder, paired_with, paired, walked, Gives}
 

@@ -1,6 +1,7 @@
 -- Instances of a pattern that is looked up are equal by what was asserted to the term of the id.
 use Rattle.std.proofs.Common.{◌≡◌, ℕ, suc, List, ◌∷◌, Some, sym, ◌∙◌, ap, refl, subst}
 use Rattle.std.specs.Prelude.{map, Bool}
+use Rattle.slotted_lists.proofs.Options.{Some-same}
 use Rattle.slotted_theory.specs.Nameless.{DArgs, DTerm, stop, place, scope, extend}
 use Rattle.slotted_theory.specs.Renaming.{IsInjective}
 use Rattle.slotted_theory.specs.Derives.{Equal, joined, within, EqualArgs, equal_done, equal_name, equal_child, equal_bind}
@@ -17,7 +18,7 @@ use Rattle.slotted_model.specs.Rest.{IsValidIn, AtRest}
 use Rattle.slotted_model.proofs.Represented.Children.{expand-as_term}
 use Rattle.slotted_model.proofs.Complete.LookUpsAreEqual.{valid-equal, node-equal}
 use Rattle.slotted_model.proofs.Finds.NormalIds.{found-valid, found-again, filling-found, full-is_valid}
-use Rattle.slotted_model.proofs.Data.Options.{Some-same, None-Some, option_map-some, both-some, and_then-some}
+use Rattle.slotted_model.proofs.Data.Options.{None-Some, option_map-some, both-some, and_then-some}
 use Rattle.slotted_model.proofs.Represented.RenamedIds.{valid-renamed}
 use Rattle.slotted_model_rules.specs.Instances.{IsInstance, IsInstanceArgs}
 use Rattle.slotted_model_rules.specs.Patterns.{Pattern, PatternArgs, pattern_node, variable, replacing, no_argument, own_name, child_pattern, binding, EachVariable, EachVariableIn, look_up_pattern, look_up_arguments}

@@ -4,11 +4,12 @@ use Rattle.std.specs.Prelude.{map, Contains, Bool, IsTrue}
 use Rattle.std.proofs.lemmas.Bool.{cases_eq}
 use Rattle.std.proofs.Math.Nat.{suc_inj}
 use Rattle.std.proofs.Math.Path.{fun_ext}
+use Rattle.slotted_lists.proofs.Contained.{contains_head, contains_tail, contains_cases, Contains-map, Contains-of_map}
+use Rattle.slotted_lists.proofs.Maps.{keys-with_values, with_values-pair}
 use Rattle.slotted_theory.specs.Term.{Args, Term, done, name, child, bind}
 use Rattle.slotted_theory.specs.Nameless.{DArgs, DTerm, stop, place, scope, extend, lift, nameless_args, nameless_by, moved, moved_args}
 use Rattle.slotted_theory.specs.FiniteMaps.{with_values}
 use Rattle.slotted_theory.specs.Renaming.{IsInjective}
-use Rattle.slotted_theory.proofs.Lists.{contains_head, contains_tail, contains_cases, Contains-map, Contains-of_map}
 use Rattle.slotted_theory.proofs.Names.{lift-extend, lift-injective, extend-injective, extend-other}
 use Rattle.slotted_theory.proofs.Values.{node, child_before, expand_args, expand}
 use Rattle.slotted_model.specs.Applied.{Applied, renamed_id, as_term, applied_of}
@@ -19,7 +20,6 @@ use Rattle.slotted_model.proofs.Represented.Children.{expand-as_term}
 use Rattle.slotted_model.proofs.Represented.Fillings.{filling-iff, a_filling}
 use Rattle.slotted_model.proofs.Represented.Full.{full-renamed, term_of-renamed}
 use Rattle.slotted_model.proofs.Represented.Ids.{term_eq-true}
-use Rattle.slotted_model.proofs.Data.Maps.{keys-with_values}
 use Rattle.slotted_model.proofs.Represented.RenamedIds.{valid-renamed}
 use Rattle.slotted_model_rules.specs.Substitution.{substituted}
 use Rattle.slotted_model_rules.specs.Patterns.{Pattern, PatternArgs, pattern_node, variable, replacing, no_argument, own_name, child_pattern, binding, EachVariable, EachVariableIn, pattern_args, pattern_of}
@@ -50,21 +50,15 @@ come-named ρ given other x h z c = elim (cases_eq z x) [
   | inr n ↦ contains_tail x given z (h z (come-inside given other (ρ z) (subst (Contains (0 ∷ map suc other)) (extend-other x ρ z n) c)))
 ]
 
--- a pair of a renamed map comes from a pair of the map
-pair-from : (f : ℕ → ℕ) (m : List (ℕ × ℕ)) (s x : ℕ) → Contains (with_values f m) (s, x) → (y : ℕ) × Contains m (s, y) × (f y ≡ x)
-pair-from f m s x c =
-    let r : (p : ℕ × ℕ) × Contains m p × ((p.0, f p.1) ≡ (s, x)) = Contains-of_map (λ (p : ℕ × ℕ). (p.0, f p.1)) m (s, x) c in
-    (r.0.1, subst (λ k. Contains m (k, r.0.1)) (ap (λ (p : ℕ × ℕ). p.0) r.2) r.1, ap (λ (p : ℕ × ℕ). p.1) r.2)
-
 filling-moved : (nodes : List DTerm) (f : ℕ → ℕ) → IsInjective f → (given other : List ℕ) → ComeFrom f given other → (a b : Applied) → IsFilling nodes given a b → IsFilling nodes other (renamed_id f a) (renamed_id f b)
 filling-moved nodes f inj given other h a b fill = record {
   class = fill.class;
   full = full-renamed nodes b fill.full f (λ x y i j. inj x y);
   keeps = λ s x c.
-      let r : (y : ℕ) × Contains a.1 (s, y) × (f y ≡ x) = pair-from f a.1 s x c in
+      let r : (y : ℕ) × Contains a.1 (s, y) × (f y ≡ x) = with_values-pair f a.1 s x c in
       subst (λ z. Contains (with_values f b.1) (s, z)) r.2 (Contains-map (λ (p : ℕ × ℕ). (p.0, f p.1)) b.1 (s, r.0) (fill.keeps s r.0 r.1));
   fresh = λ s x c n g.
-      let r : (y : ℕ) × Contains b.1 (s, y) × (f y ≡ x) = pair-from f b.1 s x c in
+      let r : (y : ℕ) × Contains b.1 (s, y) × (f y ≡ x) = with_values-pair f b.1 s x c in
       fill.fresh s r.0 r.1 (λ k. n (subst (λ ks. Contains ks s) (sym (keys-with_values f a.1)) k)) (h r.0 (subst (Contains other) (sym r.2) g));
 }
 

@@ -2,6 +2,7 @@
 use Rattle.std.proofs.Common.{◌≡◌, ◌↔◌, ℕ, List, Some, sym, ◌∙◌, ap, refl, subst}
 use Rattle.std.specs.Prelude.{option_map, option_and_then}
 use Rattle.std.proofs.Math.Path.{fun_ext}
+use Rattle.slotted_lists.proofs.Options.{Some-same}
 use Rattle.slotted_theory.specs.Term.{Args, Term, done, name, child, bind}
 use Rattle.slotted_theory.specs.Nameless.{DArgs, DTerm, stop, place, sub, scope, extend, lift, nameless_args, nameless_by, moved_args}
 use Rattle.slotted_theory.specs.Renaming.{IsInjective}
@@ -17,7 +18,7 @@ use Rattle.slotted_model.proofs.Rebuilding.Answers.{RowAnswer, answer-row}
 use Rattle.slotted_model.proofs.Finds.Congruence.{child-applied}
 use Rattle.slotted_model.proofs.Represented.LookUps.{place-moved, scope-moved, child-moved, answer-moved}
 use Rattle.slotted_model.proofs.Finds.NormalIds.{found-valid, found-again, full-is_valid}
-use Rattle.slotted_model.proofs.Data.Options.{Some-same, None-Some, option_map-some, both-some, and_then-some}
+use Rattle.slotted_model.proofs.Data.Options.{None-Some, option_map-some, both-some, and_then-some}
 use Rattle.slotted_model.proofs.Represented.RenamedIds.{valid-renamed}
 use Rattle.slotted_model.proofs.Rebuilding.RowNodes.{row_node, row-normal, row-again, row-looked_up}
 use Rattle.slotted_model.proofs.Rebuilding.Rows.{look_up_node-moved}

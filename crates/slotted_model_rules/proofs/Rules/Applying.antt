@@ -2,8 +2,8 @@
 use Rattle.std.proofs.Common.{◌≡◌, ℕ, List, ◌∷◌, ◌++◌, Some, Bool, true, false, sym, ◌∙◌, ap, refl, subst, inl, inr}
 use Rattle.std.specs.Prelude.{◌⊎◌, Contains}
 use Rattle.std.proofs.lemmas.List.Elements.{Contains-append_right}
+use Rattle.slotted_lists.proofs.Contained.{contains_head, contains_tail, contains_cases, Contains-nil}
 use Rattle.slotted_theory.specs.Nameless.{DTerm}
-use Rattle.slotted_theory.proofs.Lists.{contains_head, contains_tail, contains_cases, Contains-nil}
 use Rattle.slotted_model.specs.Applied.{Applied, values}
 use Rattle.slotted_model.specs.Classes.{term_of, IsFull}
 use Rattle.slotted_model.specs.Filling.{IsFilling}
@@ -25,7 +25,7 @@ use Rattle.slotted_model_rules.proofs.Rules.Extending.{extension-same, extension
 use Rattle.slotted_model_rules.proofs.Rules.Calling.{calls-extend, calls-enter, calls-then, calls-more, no-progress, between-later}
 
 -- a filling by names that are not among more avoids fewer
-fewer-given : (nodes : List DTerm) (some given : List ℕ) (a b : Applied) → IsFilling nodes (some ++ given) a b → IsFilling nodes given a b
+pub fewer-given : (nodes : List DTerm) (some given : List ℕ) (a b : Applied) → IsFilling nodes (some ++ given) a b → IsFilling nodes given a b
 fewer-given nodes some given a b f = record {
   class = f.class;
   full = f.full;

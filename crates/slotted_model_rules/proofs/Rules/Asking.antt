@@ -3,7 +3,7 @@ use Rattle.std.proofs.Common.{◌≡◌, ℕ, List, [], ◌++◌, Option, Some, 
 use Rattle.std.specs.Prelude.{◌⊎◌, Contains, option_map, option_and_then, not, cond}
 use Rattle.std.proofs.lemmas.List.{append-nil}
 use Rattle.std.proofs.lemmas.List.Elements.{Contains-append_left, Contains-append_right}
-use Rattle.slotted_theory.proofs.Lists.{contains_head}
+use Rattle.slotted_lists.proofs.Contained.{contains_head}
 use Rattle.slotted_model.specs.Applied.{Applied, values}
 use Rattle.slotted_model.specs.Correspondence.{has_slot}
 use Rattle.slotted_model.specs.State.{State}

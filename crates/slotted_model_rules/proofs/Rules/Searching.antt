@@ -1,13 +1,13 @@
 -- What the search of a rule finds: substitutions that are looked up, and where no slot was dropped all of them.
 use Rattle.std.proofs.Common.{◌≡◌, ℕ, List, Some, subst}
 use Rattle.std.specs.Prelude.{Contains}
+use Rattle.slotted_lists.proofs.Members.{In-Contains}
 use Rattle.slotted_theory.specs.Renaming.{Bijection}
 use Rattle.slotted_model.specs.Applied.{Applied, renamed_id}
 use Rattle.slotted_model.specs.Find.{IsLive, find}
 use Rattle.slotted_model.specs.State.{Row, State}
 use Rattle.slotted_model.specs.Rest.{IsValidIn, AtRest}
 use Rattle.slotted_model.proofs.Finds.Finding.{leads, found-live}
-use Rattle.slotted_model.proofs.Data.Members.{In-Contains}
 use Rattle.slotted_model_rules.specs.Patterns.{Pattern, EachVariable, look_up_pattern}
 use Rattle.slotted_model_rules.specs.Matcher.{EachSlot, class_id}
 use Rattle.slotted_model_rules.specs.Complete.{HasAllSlots, HasOwnBinders}

@@ -3,7 +3,8 @@ use Rattle.std.proofs.Common.{◌≡◌, ℕ, ◌*◌, [], ◌∷◌, Option, So
 use Rattle.std.specs.Prelude.{not}
 use Rattle.std.proofs.Math.Dec.{ltb}
 use Rattle.std.proofs.lemmas.Bool.{lt-ltb, ltb-true, le-ltb, ltb-false}
-use Rattle.slotted_model.proofs.Data.Options.{Some-same, None-Some}
+use Rattle.slotted_lists.proofs.Options.{Some-same}
+use Rattle.slotted_model.proofs.Data.Options.{None-Some}
 use Rattle.slotted_model_rules.specs.Runners.{Stop, saturated, iteration_limit, time_limit, node_limit, other, Limits, hook_or, runner_stop, second, eqsat_stop}
 use Rattle.slotted_model_rules.specs.RunnerClaims.{IsRunnerCause, RunnersStopForTheFirst, IsEqsatCause, EqsatStopsForTheFirst}
 

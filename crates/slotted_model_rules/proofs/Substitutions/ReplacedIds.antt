@@ -2,11 +2,12 @@
 use Rattle.std.proofs.Common.{◌≡◌, ◌≢◌, ◌⊎◌, ℕ, zero, suc, ◌+◌, ◌<◌, List, [], ◌∷◌, ◌++◌, length, get_or, sym, ◌∙◌, ap, refl, subst, inl, inr, arith, length-append}
 use Rattle.std.specs.Prelude.{map, Contains}
 use Rattle.std.proofs.lemmas.List.{get_or_append_left, get_or-append-add}
+use Rattle.slotted_lists.proofs.Contained.{contains_head, contains_tail}
+use Rattle.slotted_lists.proofs.Members.{In, In-left, In-right, In-Contains, Contains-In}
 use Rattle.slotted_theory.specs.Nameless.{DArgs, DTerm, stop, place, sub, scope, extend, moved}
 use Rattle.slotted_theory.specs.FiniteMaps.{filled}
 use Rattle.slotted_theory.specs.Renaming.{IsInjective}
 use Rattle.slotted_theory.specs.Shape.{free_names}
-use Rattle.slotted_theory.proofs.Lists.{contains_head, contains_tail}
 use Rattle.slotted_theory.proofs.Names.{extend-injective, extend-other}
 use Rattle.slotted_theory.proofs.Values.{node, child_before, expand_args, expand}
 use Rattle.slotted_model.specs.Applied.{Applied, values, renamed_id, as_term, applied_of, EachChild}
@@ -16,7 +17,6 @@ use Rattle.slotted_model.specs.Growth.{Extends}
 use Rattle.slotted_model.proofs.Represented.Children.{expand-as_term, expand-child, names-term_by}
 use Rattle.slotted_model.proofs.Represented.Fillings.{fills-itself, filling-iff}
 use Rattle.slotted_model.proofs.Represented.Full.{full-ascending, full-keys, full-renamed, full-children, term_of-renamed, term_of-layer}
-use Rattle.slotted_model.proofs.Data.Members.{In, In-left, In-right, In-Contains, Contains-In}
 use Rattle.slotted_model.proofs.Data.Sets.{SameMembers}
 use Rattle.slotted_model.proofs.Data.Theory.{moved-agrees, moved-moved, moved-id}
 use Rattle.slotted_model.proofs.Represented.Unique.{term_of-same}

@@ -2,6 +2,7 @@
 use Rattle.std.proofs.Common.{◌≡◌, ◌≢◌, ℕ, suc, ◌≤◌, sym, ◌∙◌, ap, refl, subst, inl, inr, arith}
 use Rattle.std.specs.Prelude.{cond, Contains, max}
 use Rattle.std.proofs.lemmas.Bool.{cases_Bool}
+use Rattle.slotted_lists.proofs.Contained.{above, Contains-below}
 use Rattle.slotted_theory.specs.Term.{Args, Term, done, name, child, bind}
 use Rattle.slotted_theory.specs.Nameless.{place, scope, extend, nameless_args, nameless_by, nameless, moved, Alpha}
 use Rattle.slotted_theory.specs.Renaming.{IsInjective}
@@ -9,7 +10,6 @@ use Rattle.slotted_theory.specs.Shape.{free_names, IsFreeIn}
 use Rattle.slotted_theory.proofs.ByBijection.{moved-injective}
 use Rattle.slotted_theory.proofs.FreeNames.{moved-agrees}
 use Rattle.slotted_theory.proofs.Laws.{moved-nameless, moved-moved}
-use Rattle.slotted_theory.proofs.Lists.{above, Contains-below}
 use Rattle.slotted_theory.proofs.Names.{extend-other, extend-injective}
 use Rattle.slotted_theory.proofs.NamesBack.{BindersFrom, a_named_term_from}
 use Rattle.slotted_theory.proofs.Values.{node, child_before}

@@ -1,7 +1,9 @@
 -- What represents a body: a pair of a list, found by the shape of the node over both terms.
 use Rattle.std.proofs.Common.{◌≡◌, ◌⊎◌, ◌↔◌, ℕ, suc, List, [], ◌∷◌, sym, ◌∙◌, ap, refl, inl, inr, true}
-use Rattle.std.specs.Prelude.{map, Contains, Bool, IsTrue, ◌||◌}
-use Rattle.std.proofs.lemmas.Bool.{cases_Bool, false≢true, or_left, or_right}
+use Rattle.std.specs.Prelude.{map, Contains, Bool, IsTrue}
+use Rattle.std.proofs.lemmas.Bool.{false≢true, or_left, or_right}
+use Rattle.slotted_lists.proofs.Members.{In, In-Contains, Contains-In}
+use Rattle.slotted_lists.proofs.Booleans.{or-true}
 use Rattle.slotted_theory.specs.Nameless.{DArgs, DTerm, extend, moved}
 use Rattle.slotted_theory.specs.Renaming.{Bijection}
 use Rattle.slotted_theory.specs.Shape.{shape}
@@ -9,18 +11,11 @@ use Rattle.slotted_theory.proofs.Shapes.{shape-moved, shape_iff}
 use Rattle.slotted_model.specs.Applied.{Applied}
 use Rattle.slotted_model.specs.Ids.{term_eq}
 use Rattle.slotted_model.proofs.Represented.Ids.{term_eq-true, term_eq-same}
-use Rattle.slotted_model.proofs.Data.Members.{In, In-Contains, Contains-In}
 use Rattle.slotted_model.proofs.Data.Parts.{first_child, after_first}
 use Rattle.slotted_model_rules.specs.Patterns.{Pattern, PatternArgs, pattern_node, variable, replacing, no_argument, own_name, child_pattern, binding}
 use Rattle.slotted_model_rules.specs.Instances.{IsInstance, IsInstanceArgs, is_itself, IsAnswer}
 use Rattle.slotted_model_rules.specs.PatternClaims.{MovesWithNames}
 use Rattle.slotted_model_rules.specs.Representing.{pair_node, has_shape, is_listed, represents}
-
-one-holds : (a b : Bool) → (a || b) ≡ true → (a ≡ true) ⊎ (b ≡ true)
-one-holds a b p = elim (cases_Bool a) [
-  | inl t ↦ inl t
-  | inr f ↦ inr (sym (ap (λ c. c || b) f) ∙ p)
-]
 
 shape-listed : (X : List (DTerm × DTerm)) (s : DTerm) (p : DTerm × DTerm) → In p X → shape (pair_node p.0 p.1) ≡ s → has_shape X s ≡ true
 shape-listed [] s p h e = absurd h
@@ -31,7 +26,7 @@ shape-listed (q ∷ X) s p (inr k) e = or_right (term_eq (shape (pair_node q.0 q
 
 shape-from : (X : List (DTerm × DTerm)) (s : DTerm) → has_shape X s ≡ true → (p : DTerm × DTerm) × In p X × (shape (pair_node p.0 p.1) ≡ s)
 shape-from [] s e = absurd (false≢true e)
-shape-from (q ∷ X) s e = elim (one-holds (term_eq (shape (pair_node q.0 q.1)) s) (has_shape X s) e) [
+shape-from (q ∷ X) s e = elim (or-true (term_eq (shape (pair_node q.0 q.1)) s) (has_shape X s) e) [
   | inl t ↦ (q, inl refl, term_eq-true (shape (pair_node q.0 q.1)) s t)
   | inr t ↦ let r : (p : DTerm × DTerm) × In p X × (shape (pair_node p.0 p.1) ≡ s) = shape-from X s t in (r.0, inr r.1, r.2)
 ]
@@ -44,7 +39,7 @@ itself-moves : (f : ℕ → ℕ) (u r : DTerm) → IsTrue (is_itself u r) → Is
 itself-moves f u r e = term_eq-same (moved f r) (moved f u) (ap (moved f) (term_eq-true r u e))
 
 pub represented-moves : (X : List (DTerm × DTerm)) → MovesWithNames (represents X)
-represented-moves X f inj u r e = elim (one-holds (is_listed X u r) (is_itself u r) e) [
+represented-moves X f inj u r e = elim (or-true (is_listed X u r) (is_itself u r) e) [
   | inl t ↦ or_left (is_listed X (moved f u) (moved f r)) (is_itself (moved f u) (moved f r)) (listed-moves X f inj u r t)
   | inr t ↦ or_right (is_listed X (moved f u) (moved f r)) (is_itself (moved f u) (moved f r)) (itself-moves f u r t)
 ]
@@ -81,7 +76,7 @@ listed_iff X u r = (
 
 pub represented_iff : (X : List (DTerm × DTerm)) (u r : DTerm) → IsTrue (represents X u r) ↔ (IsTrue (is_listed X u r) ⊎ (r ≡ u))
 represented_iff X u r = (
-  λ e. elim (one-holds (is_listed X u r) (is_itself u r) e) [
+  λ e. elim (or-true (is_listed X u r) (is_itself u r) e) [
     | inl t ↦ inl t
     | inr t ↦ inr (term_eq-true r u t)
   ],

@@ -3,6 +3,7 @@ use Rattle.std.proofs.Common.{◌≡◌, ◌≢◌, ◌⊎◌, ℕ, suc, List, s
 use Rattle.std.specs.Prelude.{cond, Contains}
 use Rattle.std.proofs.lemmas.Bool.{cases_Bool, false≢true}
 use Rattle.std.proofs.Math.Nat.{suc_inj}
+use Rattle.slotted_lists.proofs.Members.{In, In-left, In-right, In-append, In-map, In-of_map, In-Contains, Contains-In}
 use Rattle.slotted_theory.specs.Nameless.{DArgs, DTerm, stop, place, sub, scope, lift, moved, moved_args}
 use Rattle.slotted_theory.specs.Renaming.{IsInjective}
 use Rattle.slotted_theory.specs.Derives.{Equal, moving, within, joined, EqualArgs, equal_done, equal_name, equal_child, equal_bind}
@@ -14,7 +15,7 @@ use Rattle.slotted_theory.proofs.Values.{node, child_before}
 use Rattle.slotted_model.specs.Ids.{term_eq}
 use Rattle.slotted_model.specs.Trees.{HasNoIds, IsTree}
 use Rattle.slotted_model.proofs.Represented.Ids.{term_eq-true, term_eq-same}
-use Rattle.slotted_model.proofs.Data.Members.{In, In-left, In-right, In-append, In-map, In-of_map, In-outside, In-inside, In-Contains, Contains-In}
+use Rattle.slotted_model.proofs.Data.Members.{In-outside, In-inside}
 use Rattle.slotted_model.proofs.Data.Theory.{moved-moved, free_names-moved}
 use Rattle.slotted_model.proofs.Represented.Trees.{IsTree-moved}
 use Rattle.slotted_model_rules.specs.Substitution.{seen_inside, put, substituted_args, substituted, StandsInArgs, StandsIn}

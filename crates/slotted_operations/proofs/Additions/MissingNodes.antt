@@ -2,6 +2,7 @@
 use Rattle.std.proofs.Common.{◌≡◌, ◌≤◌, ◌∙◌, ℕ, Option, Some, None, ap, refl, sym, subst, arith, inl, inr}
 use Rattle.std.specs.Prelude.{is_some, option_map}
 use Rattle.std.proofs.lemmas.Bool.{false≢true}
+use Rattle.slotted_lists.proofs.Options.{Some-same}
 use Rattle.slotted_theory.specs.Nameless.{DTerm}
 use Rattle.slotted_theory.specs.Renaming.{Bijection}
 use Rattle.slotted_theory.specs.Shape.{SameUpToNames}
@@ -24,7 +25,7 @@ use Rattle.slotted_model.proofs.Rebuilding.Adding.{normal_args-agree}
 use Rattle.slotted_model.proofs.Represented.Children.{EachChild-map}
 use Rattle.slotted_model.proofs.Represented.Ids.{id_of_node-some}
 use Rattle.slotted_model.proofs.Rebuilding.KeepingTrees.{keeps-look_ups, keeps-then}
-use Rattle.slotted_model.proofs.Data.Options.{None-Some, Some-same, option_map-none}
+use Rattle.slotted_model.proofs.Data.Options.{None-Some, option_map-none}
 use Rattle.slotted_model.proofs.Rebuilding.Rows.{look_up_node-moved, rest-nodes}
 use Rattle.slotted_classes.specs.Finding.{IsFindable}
 use Rattle.slotted_classes.specs.Kept.{Kept, entries_of, nodes_of}

@@ -3,6 +3,9 @@ use Rattle.std.proofs.Common.{◌≡◌, ◌<◌, ◌≤◌, ℕ, zero, suc, ◌
 use Rattle.std.specs.Prelude.{option_map, is_some, All, Contains, true, false}
 use Rattle.std.proofs.lemmas.Bool.{false≢true}
 use Rattle.std.proofs.lemmas.List.{append-nil, map-append}
+use Rattle.slotted_lists.proofs.Members.{In, In-Contains, Contains-In}
+use Rattle.slotted_lists.proofs.Each.{Each-from_All}
+use Rattle.slotted_lists.proofs.Maps.{with_values-itself}
 use Rattle.slotted_theory.specs.Nameless.{DTerm}
 use Rattle.slotted_theory.specs.Renaming.{IsInjective}
 use Rattle.slotted_theory.specs.FiniteMaps.{IsInjectiveMap}
@@ -15,7 +18,6 @@ use Rattle.slotted_slots.specs.Table.{Table, fresh_slot, empty_table}
 use Rattle.slotted_nodes.specs.Form.{Form}
 use Rattle.slotted_languages.specs.NodeTerm.{nameless_node}
 use Rattle.slotted_languages.specs.Shape.{shape, Fits}
-use Rattle.slotted_languages.proofs.Renamings.{moved_same}
 use Rattle.slotted_languages.proofs.Shapes.{shapes_iff}
 use Rattle.slotted_model.specs.Ascending.{ascending, names}
 use Rattle.slotted_model.specs.Applied.{Applied, map_on, renamed_id, EachChild}
@@ -31,7 +33,6 @@ use Rattle.slotted_model.specs.State.{Row, State, left_of, right_of}
 use Rattle.slotted_model.specs.Growth.{Extends, Added}
 use Rattle.slotted_model.specs.Growth as growth
 use Rattle.slotted_model.specs.Ids.{id_of_node}
-use Rattle.slotted_model.proofs.Data.Members.{In, In-Contains, Contains-In}
 use Rattle.slotted_model.proofs.Data.Sets.{In-ascending, In-of_ascending}
 use Rattle.slotted_model.proofs.Data.Maps.{In-values}
 use Rattle.slotted_model.proofs.Represented.Children.{EachChild-moved}
@@ -55,11 +56,10 @@ use Rattle.slotted_classes.specs.Kept.{Kept, ClassEntry, RowEntry, no_form, no_e
 use Rattle.slotted_operations.specs.Good.{image_of, Good, HasFreshSlots, Makes}
 use Rattle.slotted_classes.specs.Names.{between, fresh_slots, with_put, HasNumberedBinders}
 use Rattle.slotted_operations.specs.Nodes.{child_ids}
-use Rattle.slotted_classes.proofs.ChildIds.{Each-from_All, EachChild-node_args}
+use Rattle.slotted_classes.proofs.ChildIds.{EachChild-node_args}
 use Rattle.slotted_operations.proofs.LookUps.Rows.{canonical_node-in, answer, look_up-rows, none_has}
-use Rattle.slotted_operations.proofs.Ids.FullIds.{length-classes}
 use Rattle.slotted_operations.proofs.TermsOverIds.LargeNodes.{large-old_or_new}
-use Rattle.slotted_classes.proofs.KeptLists.{length-entries_of, length-proofs_of, equation_at-of}
+use Rattle.slotted_classes.proofs.KeptLists.{length-entries_of, length-proofs_of, equation_at-of, length-nodes_of as length-classes}
 use Rattle.slotted_classes.proofs.NamePairs.{ascending-values, between-moved}
 use Rattle.slotted_classes.proofs.PutNames.{fits_put, shape-put, length-free, numeric-shape, put_own}
 
@@ -219,7 +219,7 @@ module _ (t u : Table) (k : Kept) (good : Good k) (over : HasFreshSlots t k) (f 
 
   finds_itself : between slots slots ≡ map_on (λ x. x) (names d)
   finds_itself =
-      (λ i. between (sym put_shape.1 i) (sym put_shape.1 i)) ∙ between-moved (λ x. x) c (shape c).1 (moved_same (shape c).1)
+      (λ i. between (sym put_shape.1 i) (sym put_shape.1 i)) ∙ between-moved (λ x. x) c (shape c).1 (with_values-itself (shape c).1)
 
   -- the model's lists
 

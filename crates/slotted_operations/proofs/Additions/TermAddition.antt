@@ -11,6 +11,7 @@ use Rattle.slotted_languages.specs.NodeTerm.{nameless_node}
 use Rattle.slotted_languages.specs.Shape.{Fits}
 use Rattle.slotted_terms.specs.Valid.{IsWhole}
 use Rattle.slotted_terms.proofs.TermFolds.{TermFolds, TermStep, term_folds-end, term_folds-step, weigh-append, weighs}
+use Rattle.slotted_terms.proofs.TermPatterns.{whole_count}
 use Rattle.slotted_model.specs.Applied.{Applied}
 use Rattle.slotted_model.specs.Changes.{GoesOn}
 use Rattle.slotted_model.specs.Classes.{terms, term_of, layer_of, IsFull}
@@ -44,7 +45,7 @@ use Rattle.slotted_operations.proofs.Additions.FiledSubterms.{Files, of_child, f
 use Rattle.slotted_operations.proofs.LookUps.NodesOfTrees.{node_has_id}
 use Rattle.slotted_operations.proofs.LookUps.Subterms.{children_found}
 use Rattle.slotted_operations.proofs.Additions.IdStacks.{Both, Both-at, Both-length, Both-map, Both-more, Both-split}
-use Rattle.slotted_operations.proofs.TermsOverIds.Layers.{match-from, expand-filled, each_at, child_smaller, whole_count, whole_each}
+use Rattle.slotted_operations.proofs.TermsOverIds.Layers.{match-from, expand-filled, each_at, child_smaller, whole_each}
 use Rattle.slotted_operations.proofs.TermsOverIds.PlaceCounts.{child_places_fit, node_fits, node_size_fits}
 use Rattle.slotted_operations.proofs.Additions.Tables.{makes-more, makes-none, makes-then, runs_out-then}
 use Rattle.slotted_operations.proofs.Additions.TermSlots.{slots_fit, slots_of}

@@ -2,6 +2,8 @@
 use Rattle.std.proofs.Common.{◌≡◌, ◌<◌, ◌≤◌, ◌∙◌, ℕ, suc, List, [], ◌∷◌, ◌++◌, length, get_or, Option, None, Some, ap, refl, sym, subst, arith, inl, inr, length-append}
 use Rattle.std.specs.Prelude.{All, IsSome, IsTrue, is_some, option_and_then, slice_index_or}
 use Rattle.std.proofs.lemmas.Bool.{cases_lt}
+use Rattle.slotted_lists.proofs.Members.{In}
+use Rattle.slotted_lists.proofs.Each.{Each, Each-from_All}
 use Rattle.slotted_theory.specs.Nameless.{DTerm, nameless}
 use Rattle.slotted_theory.specs.Term.{Term, done, term_size}
 use Rattle.slotted_theory.proofs.Values.{node}
@@ -14,16 +16,16 @@ use Rattle.slotted_languages.specs.NodeTerm.{nameless_node}
 use Rattle.slotted_languages.specs.Shape.{Fits}
 use Rattle.slotted_terms.specs.Valid.{HasKnownNames, IsValidTerm}
 use Rattle.slotted_terms.proofs.TermFolds.{TermFolds, TermStep, term_folds-end, term_folds-step, weigh-append, weighs}
+use Rattle.slotted_terms.proofs.TermPatterns.{whole_count}
 use Rattle.slotted_model.specs.Applied.{Applied, EachChild}
 use Rattle.slotted_model.specs.LookUp.{Renames, look_up}
 use Rattle.slotted_model.specs.State.{look_up_node, look_up_tree}
 use Rattle.slotted_model.proofs.Represented.Children.{EachChild-map}
 use Rattle.slotted_model.proofs.Complete.LookUpsAreEqual.{tree-equal}
-use Rattle.slotted_model.proofs.Data.Members.{In}
 use Rattle.slotted_model.proofs.Rebuilding.Rows.{look_up_node-moved}
 use Rattle.slotted_classes.specs.Finding.{IsFindable}
 use Rattle.slotted_classes.specs.Kept.{Kept, nodes_of}
-use Rattle.slotted_classes.proofs.ChildIds.{Each, Each-from_All, EachChild-node_args, length-ids}
+use Rattle.slotted_classes.proofs.ChildIds.{EachChild-node_args, length-ids}
 use Rattle.slotted_classes.proofs.NameMaps.{In-at, at_In}
 use Rattle.slotted_hashcons.specs.FiledRows.{Rows}
 use Rattle.slotted_hashcons.specs.WellFiled.{state_in}
@@ -40,7 +42,7 @@ use Rattle.slotted_operations.proofs.CallerLemmas.{known_later}
 use Rattle.slotted_operations.proofs.Additions.FiledSubterms.{of_child}
 use Rattle.slotted_operations.proofs.Ids.ValidIds.{renamed-findable}
 use Rattle.slotted_operations.proofs.LookUps.FoundNames.{free_from}
-use Rattle.slotted_operations.proofs.TermsOverIds.Layers.{each_at, whole_count}
+use Rattle.slotted_operations.proofs.TermsOverIds.Layers.{each_at}
 use Rattle.slotted_operations.proofs.LookUps.FoundIds.{answer-name}
 use Rattle.slotted_operations.proofs.LookUps.Subterms.{Looked, children_found, looked-args}
 use Rattle.slotted_operations.proofs.Graphs.AtRest.{at-rest}

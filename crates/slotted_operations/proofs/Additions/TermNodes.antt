@@ -2,11 +2,13 @@
 use Rattle.std.proofs.Common.{◌≡◌, ◌<◌, ◌≤◌, ◌+◌, ◌∙◌, ℕ, zero, suc, List, [], ◌∷◌, length, take, drop, get_or, Option, Some, ap, refl, sym, subst, arith, inl, inr, length-append}
 use Rattle.std.specs.Prelude.{◌⊎◌, Contains, IsTrue, slice_index}
 use Rattle.std.specs.List.{zip}
+use Rattle.slotted_lists.proofs.Contained.{contains_cases}
+use Rattle.slotted_lists.proofs.Members.{Contains-In, In, In-Contains}
+use Rattle.slotted_lists.proofs.Each.{Each, Each-append}
 use Rattle.slotted_theory.specs.FiniteMaps.{HasValue, IsInjectiveMap}
 use Rattle.slotted_theory.specs.Nameless.{DTerm, nameless}
 use Rattle.slotted_theory.specs.Shape.{free_names}
 use Rattle.slotted_theory.specs.Term.{Term, term_size}
-use Rattle.slotted_theory.proofs.Lists.{contains_cases}
 use Rattle.slotted_slots.specs.Table.{KnowsMore, Table, is_known}
 use Rattle.slotted_nodes.specs.Form.{Form, Tree, leaf, own, child, bind, scopes, children}
 use Rattle.slotted_languages.specs.Filled.{filled}
@@ -15,6 +17,7 @@ use Rattle.slotted_languages.specs.Shape.{Fits}
 use Rattle.slotted_languages.proofs.NodeTerms.{own_fits, child_keys_fit, child_rest_fits, bind_inner_fits, bind_rest_fits}
 use Rattle.slotted_terms.specs.Valid.{HasKnownNames, IsValidTerm, IsWhole}
 use Rattle.slotted_terms.proofs.TermFolds.{weigh}
+use Rattle.slotted_terms.proofs.TermPatterns.{whole_count}
 use Rattle.slotted_model.specs.Applied.{Applied, values}
 use Rattle.slotted_model.specs.Changes.{GoesOn}
 use Rattle.slotted_model.specs.Correspondence.{AllDifferent}
@@ -24,11 +27,9 @@ use Rattle.slotted_model.proofs.Represented.Children.{EachChild-map}
 use Rattle.slotted_model.proofs.Rebuilding.GoingOn.{goes_on-then}
 use Rattle.slotted_model.proofs.Represented.Growing.{Extends-same, Extends-then}
 use Rattle.slotted_model.proofs.Represented.LookUps.{look_up-moved}
-use Rattle.slotted_model.proofs.Data.Members.{Contains-In, In, In-Contains}
 use Rattle.slotted_model.proofs.Rebuilding.Touching.{different-length}
 use Rattle.slotted_classes.specs.Finding.{IsFindable}
 use Rattle.slotted_classes.specs.Kept.{Kept, nodes_of}
-use Rattle.slotted_classes.proofs.ChildIds.{Each, Each-append}
 use Rattle.slotted_hashcons.specs.FiledRows.{Rows}
 use Rattle.slotted_hashcons.specs.WellFiled.{state_in}
 use Rattle.slotted_operations.specs.Adding.{IsOfTerm, args_nodes, term_nodes}
@@ -42,7 +43,7 @@ use Rattle.slotted_operations.proofs.Graphs.Continuations.{finds-on}
 use Rattle.slotted_operations.proofs.Additions.NewClasses.{adds-none, same-goes_on}
 use Rattle.slotted_operations.proofs.Graphs.Notes.{notes-none, notes-then}
 use Rattle.slotted_operations.proofs.Graphs.Images.{adds-then}
-use Rattle.slotted_operations.proofs.TermsOverIds.Layers.{Each-parts, child_smaller, each_at, length-parts, whole_count, whole_each}
+use Rattle.slotted_operations.proofs.TermsOverIds.Layers.{Each-parts, child_smaller, each_at, length-parts, whole_each}
 use Rattle.slotted_operations.proofs.LookUps.Subterms.{look-names}
 use Rattle.slotted_operations.proofs.TermsOverIds.PlaceCounts.{Bounded, child_places_fit, free_fit, places_fit, size_fit}
 

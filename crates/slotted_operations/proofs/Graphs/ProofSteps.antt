@@ -2,6 +2,7 @@
 use Rattle.std.proofs.Common.{◌≡◌, ◌≢◌, ℕ, ◌<◌, List, [], ◌∷◌, length, sym, ◌∙◌, ap, refl, subst, inl, inr, arith, ◌↔◌}
 use Rattle.std.specs.Prelude.{slice_index_or, map, Bool, Result, Ok, Err, IfOk, OnErr, IsErrOf}
 use Rattle.std.proofs.lemmas.List.{map-append}
+use Rattle.slotted_lists.proofs.Maps.{IsInjectiveMap-before}
 use base.Stored.{Gv}
 use Rattle.slotted_slots.specs.declared.error.Error.{Error}
 use Rattle.slotted_slots.specs.declared.error.Error.TheVariants.{BadStep}
@@ -25,18 +26,17 @@ use Rattle.slotted_proofs.specs.Proving.{IsCanonical, IsProvable}
 use Rattle.slotted_proofs.specs.StepClaims.{IsOfFull}
 use Rattle.slotted_proofs.specs.Steps.{IsEntry, IsReflexiveStep, IsSymmetricStep, IsTransitiveStep, by_step}
 use Rattle.slotted_proofs.proofs.Entering.{entry-over, others_assert_nothing}
-use Rattle.slotted_proofs.proofs.Fitting.{reflexive_fits, symmetric_fits, transitive_fits, congruent_fits}
+use Rattle.slotted_proofs.proofs.Fitting.{reflexive_fits, symmetric_fits, transitive_fits, congruent_fits, own as own_map}
 use Rattle.slotted_proofs.proofs.Stepping.{matches-state, states-entry}
 use Rattle.slotted_operations.specs.Checks.{SaysIn, GoesBetween, IsCongruentStep, FitsBy, Fits, entry_by, Accepts}
 use Rattle.slotted_rebuilding.specs.Frames.{IsCongruentIn}
-use Rattle.slotted_alike.proofs.Frames.{injective_before}
 use Rattle.slotted_operations.specs.Graph.{Graph}
 use Rattle.slotted_operations.specs.Image.{AreDerivable}
 use Rattle.slotted_operations.specs.Leaves.{FollowsFromLeaves}
 use Rattle.slotted_classes.specs.Kept.{Kept, nodes_of, proofs_of, with_proofs, EntersIn}
 use Rattle.slotted_hashcons.specs.FiledRows.{Rows, rows_in}
 use Rattle.slotted_operations.specs.Good.{graph_of, image_of, Good, RestsWith, HasFreshSlots}
-use Rattle.slotted_unions.proofs.JoinedIds.{own_map, written_sides}
+use Rattle.slotted_unions.proofs.JoinedIds.{written_sides}
 use Rattle.slotted_operations.proofs.Graphs.Finds.{entering-good}
 use Rattle.slotted_operations.proofs.Graphs.AtRest.{entered-rests}
 use Rattle.slotted_operations.proofs.Graphs.Leaves.{good-entries_follow}
@@ -111,7 +111,7 @@ module _ (k : Kept) (good : Good k) where
     matched_map : (c a : Applied) (f : ℕ → ℕ) → IsFull ns c → c.1 ≡ with_values f a.1 → IsFullMap (keys a.1) a.1
     matched_map c a f full m =
         let ks : keys c.1 ≡ keys a.1 = ap keys m ∙ with_values-keys f a.1 in
-        record { slots = refl; once = subst AllDifferent ks (own_map ns c full).once; injective = injective_before f a.1 (subst IsInjectiveMap m full.injective) }
+        record { slots = refl; once = subst AllDifferent ks (own_map ns c full).once; injective = IsInjectiveMap-before f a.1 (subst IsInjectiveMap m full.injective) }
 
     says_left : (p : ℕ) (a b : Applied) → SaysIn (image_of k) p a b → IsFullMap (keys a.1) a.1
     says_left p a b h = matched_map h.left a h.matches.names.name h.left_full h.matches.names.left

@@ -1,20 +1,20 @@
 -- What a graph reports of its classes, as contracts see it and as what is kept has it.
-use Rattle.std.proofs.Common.{◌≡◌, ◌<◌, ◌≤◌, ◌+◌, ◌∙◌, ℕ, zero, suc, List, [], ◌∷◌, ◌++◌, cond, length, ap, refl, sym, subst, inl, inr, arith}
-use Rattle.std.specs.Prelude.{◌↔◌, Bool, Contains, IsTrue, nat_eq}
+use Rattle.std.proofs.Common.{◌≡◌, ◌<◌, ◌+◌, ◌∙◌, ℕ, List, [], ◌∷◌, ◌++◌, length, ap, refl, sym, subst, inl, inr, arith}
+use Rattle.std.specs.Prelude.{◌↔◌, Contains, IsTrue, nat_eq}
 use Rattle.std.specs.List.{filter, range_with_len}
 use Rattle.std.proofs.lemmas.Bool.{cases_Bool, eq-eqb, eqb-true, false≢true, lt-ltb, ne_eqb}
+use Rattle.slotted_lists.proofs.Members.{Contains-In}
+use Rattle.slotted_lists.proofs.Lists.{filter-agrees}
 use Rattle.slotted_slots.specs.Table.{Table, empty_table, is_known, AllKnown}
 use Rattle.slotted_slots.proofs.TableLaws.{is_known-fresh_slot}
 use Rattle.slotted_slots.specs.declared.types.Id.{Id}
 use Rattle.slotted_theory.specs.Nameless.{DTerm}
 use Rattle.slotted_model.specs.Applied.{Applied, renamed_id, values}
 use Rattle.slotted_model.specs.Ascending.{ascending}
-use Rattle.slotted_model.specs.Correspondence.{composite, identity}
+use Rattle.slotted_model.specs.Correspondence.{identity}
 use Rattle.slotted_model.specs.Find.{Entry, IsLive, entry_at, find, find_class, find_map, used_slots}
-use Rattle.slotted_model.proofs.Correspondences.Pairs.{Contains-of_value, Contains-value}
-use Rattle.slotted_model.proofs.Correspondences.PartialInjections.{composite-over}
+use Rattle.slotted_model.proofs.Correspondences.Pairs.{Contains-of_value, In-values_composite}
 use Rattle.slotted_model.proofs.Finds.Finding.{Leads, find_class-live, find_map-partial, found-live, leads}
-use Rattle.slotted_model.proofs.Data.Members.{Contains-In, In, In-Contains}
 use Rattle.slotted_model.proofs.Finds.NormalIds.{of_used, values-identity}
 use Rattle.slotted_classes.specs.Kept.{Kept, entries_of, nodes_of}
 use Rattle.slotted_classes.proofs.KeptLists.{length-nodes_of}
@@ -38,30 +38,15 @@ class_count-is k g image = sym (length-nodes_of k) ∙ ap (λ (x : Image). lengt
 pub within : (k : Kept) (g : Image) → image_of k ≡ g → (i : ℕ) → i < length g.canonical → i < length k.classes
 within k g image i l = omega (arith, l, class_count-is k g image)
 
--- a table knows the names of an id that a find makes of known ones
-names-of_composite : (A m : List (ℕ × ℕ)) (x : ℕ) → In x (values (composite A m)) → In x (values m)
-names-of_composite A m x h =
-    let p = Contains-of_value (composite A m) x (Contains-In (values (composite A m)) x h) in
-    let q = composite-over A m p.0 x p.1 in
-    In-Contains (values m) x (Contains-value m q.0 x q.2)
-
 found-known : (t : Table) (found : List Entry) (a : Applied) → AllKnown t (values a.1) → AllKnown t (values (find found a).1)
 found-known t found a known j d h =
     let names : List ℕ = values (find found a).1 in
-    at_In (λ s. IsTrue (is_known t s)) (values a.1) known _ (names-of_composite (find_map found a.0) a.1 _ (In-at names j d h))
+    at_In (λ s. IsTrue (is_known t s)) (values a.1) known _ (In-values_composite (find_map found a.0) a.1 _ (In-at names j d h))
 
 -- one id more
 pub numbers-then : (ids : List Id) (id : Id) → class_numbers (ids ++ id ∷ []) ≡ class_numbers ids ++ id.0 ∷ []
 numbers-then [] id = refl
 numbers-then (x ∷ ids) id = ap (λ ns. x.0 ∷ ns) (numbers-then ids id)
-
--- tests that agree on a range let the same numbers through
-filter-agrees : (f g : ℕ → Bool) (s n : ℕ) → ((i : ℕ) → s ≤ i → i < s + n → f i ≡ g i) → filter f (range_with_len s n) ≡ filter g (range_with_len s n)
-filter-agrees f g s zero same = refl
-filter-agrees f g s (suc n) same =
-    let e : f s ≡ g s = same s (omega arith) (omega arith) in
-    let r : filter f (range_with_len (s + 1) n) ≡ filter g (range_with_len (s + 1) n) = filter-agrees f g (s + 1) n (λ i l h. same i (omega arith) (omega arith)) in
-    λ j. cond (e j) (s ∷ r j) (r j)
 
 -- two numbers that are i together are compared with i alike
 pub compared-alike : (a b i : ℕ) → ((a ≡ i) ↔ (b ≡ i)) → nat_eq a i ≡ nat_eq b i

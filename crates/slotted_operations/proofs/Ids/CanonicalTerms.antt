@@ -1,11 +1,14 @@
 -- Canonical nodes and terms with the names of an id put in.
-use Rattle.std.proofs.Common.{◌≡◌, ◌<◌, ℕ, suc, List, [], ◌∷◌, ◌++◌, length, get_or, take, drop, sym, ◌∙◌, ap, refl, subst, arith, inl, inr, length-append}
+use Rattle.std.proofs.Common.{◌≡◌, ◌<◌, ℕ, suc, List, [], ◌∷◌, length, get_or, take, drop, sym, ◌∙◌, ap, refl, subst, arith, length-append}
 use Rattle.std.specs.Prelude.{slice_index_or, slice_index, slice_set}
 use Rattle.std.specs.List.{zip}
+use Rattle.slotted_lists.proofs.Members.{In}
+use Rattle.slotted_lists.proofs.Each.{Each, Each-join}
+use Rattle.slotted_lists.proofs.Maps.{IsInjectiveMap-before, zip-keys_values, length-values, length-keys, keys-with_values}
 use Rattle.slotted_theory.specs.Term.{Term, Args}
 use Rattle.slotted_theory.specs.Nameless.{DTerm, extend, nameless_args, nameless, moved}
 use Rattle.slotted_theory.specs.Renaming.{IsInjective}
-use Rattle.slotted_theory.specs.FiniteMaps.{HasValue, IsInjectiveMap, filled, with_values}
+use Rattle.slotted_theory.specs.FiniteMaps.{filled}
 use Rattle.slotted_theory.proofs.Names.{extend-injective}
 use Rattle.slotted_slots.specs.Maps.{keys, values, KnowsAll}
 use Rattle.slotted_nodes.specs.Form.{Form, Tree, leaf, own, child, bind, scopes, children, with_child}
@@ -17,26 +20,19 @@ use Rattle.slotted_languages.proofs.NodeTerms.{own_fits, length-child, child_key
 use Rattle.slotted_model.specs.Applied.{Applied, renamed_id, EachChild}
 use Rattle.slotted_model.specs.Ascending.{names}
 use Rattle.slotted_model.specs.Classes.{canonical_node, canonical_slots, term_of, layer_of, terms, IsFull, Canonical}
-use Rattle.slotted_model.proofs.Data.Members.{In}
 use Rattle.slotted_model.proofs.Data.Sets.{In-ascending}
 use Rattle.slotted_model.proofs.Represented.Folds.{as_term-same}
 use Rattle.slotted_model.proofs.Represented.Full.{term_of-layer, full-children}
-use Rattle.slotted_model.proofs.Data.Maps.{keys-with_values}
-use Rattle.slotted_classes.specs.Kept.{Kept, nodes_of, node_at}
 use Rattle.slotted_operations.specs.Nodes.{ids_in, child_ids}
 use Rattle.slotted_operations.specs.Canonical.{args_count, place_count}
 use Rattle.slotted_languages.specs.Beside.{IsBeside}
-use Rattle.slotted_operations.proofs.LookUps.Rows.{canonical_node-in}
-use Rattle.slotted_classes.proofs.NameMaps.{In-at, In-key, length-keys, length-values}
-use Rattle.slotted_classes.proofs.ChildIds.{Each, atom-is, length-ids, zip-keys_values}
+use Rattle.slotted_languages.proofs.Counting.{In-value}
+use Rattle.slotted_classes.proofs.NameMaps.{In-at}
+use Rattle.slotted_classes.proofs.ChildIds.{atom-is, length-ids}
 use Rattle.slotted_operations.proofs.TermsOverIds.Children.{plugs}
 use Rattle.slotted_operations.proofs.TermsOverIds.Layers.{expand-filled, match-from, each_at}
 
 -- what holds of each child of the nameless form, and of an id where it holds of a renamed one, holds of each child
-
-Each-both : {X : Type 0} (P : X → Type 0) (xs ys : List X) → Each P xs → Each P ys → Each P (xs ++ ys)
-Each-both P [] ys h k = k
-Each-both P (x ∷ xs) ys h k = (h.0, Each-both P xs ys h.1 k)
 
 Each-from_EachChild : (P Q : Applied → Type 0) → ((f : ℕ → ℕ) → IsInjective f → (a : Applied) → P (renamed_id f a) → Q a) → (ρ : ℕ → ℕ) → IsInjective ρ → (t : Tree) (xs : List ℕ) → length xs ≡ length (scopes t) → EachChild P (nameless_args ρ (node_args t xs)) → Each Q (ids_in t xs)
 Each-from_EachChild P Q back ρ inj leaf xs n h = tt
@@ -49,26 +45,17 @@ Each-from_EachChild P Q back ρ inj (child i ks r) xs n h =
     )
 Each-from_EachChild P Q back ρ inj (bind u r) xs n h =
     let m = length (scopes u) in
-    Each-both Q (ids_in u (take m (drop 1 xs))) (ids_in r (drop m (drop 1 xs)))
+    Each-join Q (ids_in u (take m (drop 1 xs))) (ids_in r (drop m (drop 1 xs)))
     (Each-from_EachChild P Q back (extend (slice_index xs 0) ρ) (extend-injective (slice_index xs 0) ρ inj) u (take m (drop 1 xs)) (bind_inner_fits u r xs n) h.0)
     (Each-from_EachChild P Q back ρ inj r (drop m (drop 1 xs)) (bind_rest_fits u r xs n) h.1)
 
 -- an id is full where a renamed one is
 
-HasValue-with_values : (f : ℕ → ℕ) (m : List (ℕ × ℕ)) (v : ℕ) → HasValue m v → HasValue (with_values f m) (f v)
-HasValue-with_values f [] v h = h
-HasValue-with_values f (p ∷ m) v (inl e) = inl (ap f e)
-HasValue-with_values f (p ∷ m) v (inr h) = inr (HasValue-with_values f m v h)
-
-IsInjectiveMap-back : (f : ℕ → ℕ) (m : List (ℕ × ℕ)) → IsInjectiveMap (with_values f m) → IsInjectiveMap m
-IsInjectiveMap-back f [] h = tt
-IsInjectiveMap-back f (p ∷ m) h = (λ v. h.0 (HasValue-with_values f m p.1 v), IsInjectiveMap-back f m h.1)
-
 full-back : (nodes : List DTerm) (f : ℕ → ℕ) (a : Applied) → IsFull nodes (renamed_id f a) → IsFull nodes a
 full-back nodes f a full = record {
   in_range = full.in_range;
   slots = sym (keys-with_values f a.1) ∙ full.slots;
-  injective = IsInjectiveMap-back f a.1 full.injective;
+  injective = IsInjectiveMap-before f a.1 full.injective;
 }
 
 -- an earlier full id
@@ -91,16 +78,12 @@ canonical-term nodes can a full f h fits is beside us n each =
     λ i. record { op = suc (sym beside.operator i); payloads = sym beside.payloads i; args = (e ∙ ap (λ (x : Args). nameless_args (λ y. y) x) (sym (beside.outline us n))) i } in
     sym layered ∙ (ap (layer_of nodes) is ∙ sym (term_of-layer nodes can a full))
 
--- the canonical node of a class
-pub node_at-is : (k : Kept) (i : ℕ) → i < length k.classes → nameless_node (node_at k i) ≡ canonical_node (nodes_of k) i
-node_at-is k i lt = sym (canonical_node-in k.classes i lt)
-
 -- the keys of a full id are the names of its node
 pub knows-names : (nodes : List DTerm) (a : Applied) → IsFull nodes a → (f : Form) → nameless_node f ≡ canonical_node nodes a.0 → KnowsAll a.1 (free_names_of f)
 knows-names nodes a full f is k d lt =
     let x = get_or (free_names_of f) k d in
     let here : In x (canonical_slots nodes a.0) = subst (λ (t : DTerm). In x (names t)) is (In-ascending x (free_names_of f) (In-at (free_names_of f) k d lt)) in
-    In-key a.1 x (subst (In x) (sym full.slots) here)
+    In-value a.1 x (subst (In x) (sym full.slots) here)
 
 -- each place is a name or a binder
 

@@ -1,12 +1,12 @@
 -- Ids whose missing names were filled in by fresh slots, and how many slots their canonical terms take.
 use Rattle.std.proofs.Common.{◌≡◌, ◌+◌, ◌≤◌, [], ap, subst, arith, inl, inr}
 use Rattle.std.specs.Prelude.{Contains}
+use Rattle.slotted_lists.proofs.Members.{In-Contains, Contains-In}
 use Rattle.slotted_slots.specs.Table.{Table, KnowsMore, AllKnown}
 use Rattle.slotted_slots.proofs.SlotsTaken.{fresh_goes_on}
 use Rattle.slotted_model.specs.Applied.{Applied, keys, values}
 use Rattle.slotted_model.specs.Classes.{IsFull}
 use Rattle.slotted_model.specs.Filling.{IsFilling}
-use Rattle.slotted_model.proofs.Data.Members.{In-Contains, Contains-In}
 use Rattle.slotted_classes.specs.Kept.{Kept, nodes_of}
 use Rattle.slotted_lookup.specs.Filling.{FillsId, filled_id, missing, with_fresh}
 use Rattle.slotted_lookup.proofs.IdFillings.{filled-fresh}

@@ -1,37 +1,33 @@
 -- When an id is full: the slots of its class are read off the row that files the class's node.
 use Rattle.std.proofs.Common.{◌≡◌, ◌↔◌, ◌<◌, ℕ, zero, suc, List, [], ◌∷◌, length, sym, ◌∙◌, ap, refl, subst, arith}
 use Rattle.std.specs.Prelude.{slice_index_or}
+use Rattle.slotted_lists.proofs.Members.{In, In-Contains, Contains-In}
+use Rattle.slotted_lists.proofs.Maps.{length-values, length-keys}
 use Rattle.slotted_theory.specs.FiniteMaps.{IsInjectiveMap}
 use Rattle.slotted_slots.specs.Ascending as slots
 use Rattle.slotted_slots.specs.Maps.{keys, values}
 use Rattle.slotted_languages.specs.Shape.{shape}
 use Rattle.slotted_languages.proofs.Shapes.{injective-shape}
+use Rattle.slotted_languages.proofs.Counting.{In-value}
 use Rattle.slotted_model.specs.Ascending.{ascending, names}
 use Rattle.slotted_model.specs.Applied.{Applied}
 use Rattle.slotted_model.specs.Classes.{canonical_slots, IsFull}
 use Rattle.slotted_model.specs.Correspondence.{identity}
 use Rattle.slotted_model.proofs.Represented.FillingEquations.{keys-identity}
 use Rattle.slotted_model.proofs.Represented.Fillings.{slots-ascending}
-use Rattle.slotted_model.proofs.Data.Members.{In, In-Contains, Contains-In}
 use Rattle.slotted_classes.specs.Finding.{IsFindable}
 use Rattle.slotted_classes.specs.Kept.{Kept, ClassEntry, RowEntry, no_form, names_at, nodes_of, rows_from}
 use Rattle.slotted_classes.proofs.DistinctValues.{length-ascending_values}
-use Rattle.slotted_classes.proofs.NameMaps.{In-at, In-key, keys_are, length-keys, length-values, rising}
+use Rattle.slotted_classes.proofs.NameMaps.{In-at, keys_are, rising}
 use Rattle.slotted_classes.proofs.NamePairs.{ascending-values}
+use Rattle.slotted_classes.proofs.KeptLists.{length-nodes_of}
+use Rattle.slotted_classes.proofs.OwnIds.{length-from}
 use Rattle.slotted_operations.specs.Good.{Good}
 use Rattle.slotted_operations.proofs.LookUps.Rows.{node_in, nameless_nodes, canonical_node-in}
 
 length-nodes : (cs : List ClassEntry) → length (nameless_nodes cs) ≡ length cs
 length-nodes [] = refl
 length-nodes (c ∷ cs) = ap suc (length-nodes cs)
-
-pub length-classes : (k : Kept) → length (nodes_of k) ≡ length k.classes
-length-classes k = length-nodes k.classes
-
--- there is a row for each class
-length-from : (i : ℕ) (cs : List ClassEntry) → length (rows_from i cs) ≡ length cs
-length-from i [] = refl
-length-from i (c ∷ cs) = ap suc (length-from (suc i) cs)
 
 pub length-rows : (k : Kept) → Good k → length k.rows ≡ length k.classes
 length-rows k good = ap length good.rows ∙ length-from 0 k.classes
@@ -62,7 +58,7 @@ module _ (k : Kept) (good : Good k) (a : Applied) where
 
   pub full_iff : a.0 < length k.classes → keys a.1 ≡ ascending (values (names_at k a.0)) → IsInjectiveMap a.1 ↔ IsFull (nodes_of k) a
   full_iff l e = (
-    λ i. record { in_range = omega (arith, l, length-classes k); slots = e ∙ row-values k good a.0 l; injective = i },
+    λ i. record { in_range = omega (arith, l, length-nodes_of k); slots = e ∙ row-values k good a.0 l; injective = i },
     λ full. full.injective,
   )
 
@@ -70,7 +66,7 @@ module _ (k : Kept) (good : Good k) (a : Applied) where
 pub full-by_count : (k : Kept) → Good k → (a : Applied) → IsFindable k a → (m : List (ℕ × ℕ)) → m ≡ names_at k a.0 → (length a.1 ≡ length m) ↔ IsFull (nodes_of k) a
 full-by_count k good a v m e =
     let S : List ℕ = canonical_slots (nodes_of k) a.0 in
-    let l : a.0 < length k.classes = let h : a.0 < length (nodes_of k) = v.in_range in omega (arith, h, length-classes k) in
+    let l : a.0 < length k.classes = let h : a.0 < length (nodes_of k) = v.in_range in omega (arith, h, length-nodes_of k) in
     let n : length S ≡ length m =
     ap length (sym (row-values k good a.0 l))
     ∙ (length-ascending_values (names_at k a.0) (row-differ k good a.0 l)
@@ -84,7 +80,7 @@ full-by_count k good a v m e =
             (length-keys a.1 ∙ (h ∙ (sym n ∙ ap length (sym own))))
             (λ i d j.
             let s : ℕ = slice_index_or (keys a.1) i d in
-            In-key (identity S) s (subst (In s) (sym own) (In-Contains S s (v.within s (Contains-In (keys a.1) s (In-at (keys a.1) i d j)))))))
+            In-value (identity S) s (subst (In s) (sym own) (In-Contains S s (v.within s (Contains-In (keys a.1) s (In-at (keys a.1) i d j)))))))
             ∙ own;
         injective = v.injective;
       },

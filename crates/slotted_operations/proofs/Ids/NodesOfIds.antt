@@ -1,13 +1,11 @@
 -- A canonical node with the names of an id put in is over full ids, as large as it was, and known where those names are.
 use Rattle.std.proofs.Common.{◌≡◌, ◌<◌, ◌≤◌, ◌+◌, ℕ, suc, List, [], ◌∷◌, ◌++◌, length, cond, not, slice_index_or, sym, ◌∙◌, ap, refl, subst, arith, inr}
-use Rattle.std.specs.Prelude.{All, IsTrue, Result, Ok, Err, IfOk, IfErr, IsErrOf}
+use Rattle.std.specs.Prelude.{All, IsTrue, Result, Ok, Err, IfOk, IsErrOf}
 use Rattle.std.proofs.lemmas.List.Elements.{All-append}
+use Rattle.slotted_lists.proofs.Members.{In-take, In-drop}
 use Rattle.slotted_theory.specs.Nameless.{DArgs, DTerm, stop, place, sub, scope, lift, moved_args, moved}
 use Rattle.slotted_theory.specs.FiniteMaps.{filled}
 use Rattle.slotted_theory.specs.Term.{Term}
-use Rattle.slotted_slots.specs.declared.error.Error.{Error}
-use Rattle.slotted_slots.specs.declared.error.Error.TheVariants.{OutOfSlots}
-use Rattle.slotted_slots.specs.Error.{IsOutOfMemory}
 use Rattle.slotted_slots.specs.Table.{Table, KnowsMore, TakesAtMost, is_known, slot_limit, unknown_names, AllKnown}
 use Rattle.slotted_slots.proofs.SlotsTaken.{at_most_known, fresh_goes_on, lacks_known}
 use Rattle.slotted_nodes.specs.Form.{Form, children, child_names, child_place, width}
@@ -25,7 +23,6 @@ use Rattle.slotted_operations.specs.Graph.{RunsOut}
 use Rattle.slotted_operations.specs.Nodes.{child_ids}
 use Rattle.slotted_operations.proofs.Ids.CanonicalTerms.{children-below, places-counted}
 use Rattle.slotted_classes.proofs.ChildIds.{length-ids}
-use Rattle.slotted_operations.proofs.LookUps.FoundNames.{In-take, In-drop}
 use Rattle.slotted_classes.proofs.NameMaps.{In-at, at_In}
 use Rattle.slotted_operations.proofs.TermsOverIds.ValidTerms.{valid_term}
 
@@ -34,7 +31,7 @@ pub children-full : (nodes : List DTerm) → Canonical nodes → (a : Applied) �
 children-full nodes can a full f fits is k d lt = (children-below nodes can a full f fits is k d (omega (arith, lt, length-ids f.tree f.names))).1
 
 -- other names, as many places
-args_count-moved : (ρ : ℕ → ℕ) (d : DArgs) → args_count (moved_args ρ d) ≡ args_count d
+pub args_count-moved : (ρ : ℕ → ℕ) (d : DArgs) → args_count (moved_args ρ d) ≡ args_count d
 args_count-moved ρ stop = refl
 args_count-moved ρ (place x rest) = λ i. 1 + args_count-moved ρ rest i
 args_count-moved ρ (sub op payloads args rest) = λ i. args_count-moved ρ args i + args_count-moved ρ rest i
@@ -84,13 +81,3 @@ valid-beside t f h us fits beside n known ops all =
 pub err-no_ok : {A E : Type 0} (r : Result A E) (e : E) (P : A → Type 0) → IsErrOf r e → IfOk r P
 err-no_ok (Ok x) e P h = cc
 err-no_ok (Err x) e P h = tt
-
--- a call that refuses only for want of memory does not run out of slots
-pub memory-no_slots : {A B : Type 0} (r : Result A Error) → IfErr r IsOutOfMemory → IsErrOf r OutOfSlots → B
-memory-no_slots (Ok x) m e = cc
-memory-no_slots (Err x) m e = cc
-
--- what three clauses say of an answer, together
-pub ok-three : {A E : Type 0} (r : Result A E) (P Q R S : A → Type 0) → ((x : A) → P x → Q x → R x → S x) → IfOk r P → IfOk r Q → IfOk r R → IfOk r S
-ok-three (Ok x) P Q R S f p q s = f x p q s
-ok-three (Err e) P Q R S f p q s = tt

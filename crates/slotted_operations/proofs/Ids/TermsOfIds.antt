@@ -3,6 +3,8 @@ use Rattle.std.proofs.Common.{◌≡◌, ◌<◌, ◌≤◌, ◌+◌, ℕ, suc, 
 use Rattle.std.specs.Prelude.{IsTrue, slice_index_or}
 use Rattle.std.specs.List.{zip}
 use Rattle.std.proofs.lemmas.List.{length-reverse, reverse-append, reverse-reverse}
+use Rattle.slotted_lists.proofs.Members.{In, In-take, In-drop}
+use Rattle.slotted_lists.proofs.Each.{Each, Each-append, Each-join}
 use Rattle.slotted_theory.specs.Nameless.{DTerm}
 use Rattle.slotted_theory.specs.Term.{Term}
 use Rattle.slotted_slots.specs.declared.types.AppliedId.{AppliedId}
@@ -12,12 +14,12 @@ use Rattle.slotted_nodes.specs.Form.{Form, Tree, leaf, own, child, bind, scopes,
 use Rattle.slotted_languages.specs.Filled.{term_of}
 use Rattle.slotted_model.specs.Applied.{Applied}
 use Rattle.slotted_model.specs.Classes.{Canonical, IsFull}
-use Rattle.slotted_model.proofs.Data.Members.{In}
 use Rattle.slotted_proofs.specs.Equations.{to_applied}
 use Rattle.slotted_classes.specs.Kept.{Kept, node_at, nodes_of}
-use Rattle.slotted_classes.proofs.ChildIds.{Each, Each-append, length-ids}
+use Rattle.slotted_classes.proofs.ChildIds.{length-ids}
 use Rattle.slotted_classes.proofs.KeptLists.{length-nodes_of}
 use Rattle.slotted_classes.proofs.NameMaps.{In-at, at_In}
+use Rattle.slotted_classes.proofs.ClassNodes.{node-is}
 use Rattle.slotted_operations.specs.Causes.{HasLargePart}
 use Rattle.slotted_operations.specs.Good.{Good}
 use Rattle.slotted_operations.specs.Graph.{MakesAtMost}
@@ -27,10 +29,9 @@ use Rattle.slotted_operations.specs.Preorder.{HasEnough, built, over_last_of}
 use Rattle.slotted_operations.specs.Syn.{KnowsSlotsAnd, LacksForFullNode, LacksForFullTerm, MakesForNode, MakesForTerm, node_binders, term_binders}
 use Rattle.slotted_operations.proofs.Additions.IdStacks.{Both, Both-at, Both-length, Both-more}
 use Rattle.slotted_operations.proofs.TermsOverIds.Binders.{ids_binders, ids_binders-append, node_within, parts_counted}
-use Rattle.slotted_operations.proofs.Ids.CanonicalTerms.{canonical-term, node_at-is}
+use Rattle.slotted_operations.proofs.Ids.CanonicalTerms.{canonical-term}
 use Rattle.slotted_operations.proofs.Graphs.FreshSlots.{fresh_slots-more}
 use Rattle.slotted_operations.proofs.Ids.NodesOfIds.{children-full, valid-beside}
-use Rattle.slotted_operations.proofs.LookUps.FoundNames.{In-drop, In-take}
 use Rattle.slotted_operations.proofs.TermsOverIds.LargeChildren.{large_child_part}
 use Rattle.slotted_operations.proofs.TermsOverIds.Preorders.{built-append, enough-append, over_last-seam}
 use Rattle.slotted_operations.proofs.Additions.Tables.{makes-more, makes-none, makes-then, runs_out-then}
@@ -61,13 +62,9 @@ back P (a ∷ ids) (t ∷ ts) h =
     subst (λ (x : List Applied × List Term). Both P x.0 x.1) (λ i. (sym (reverse-append (a ∷ []) ids) i, sym (reverse-append (t ∷ []) ts) i))
     (Both-more P (reverse ids) (reverse ts) a t (back P ids ts h.1) h.0)
 
-each-join : {X : Type 0} (P : X → Type 0) (xs ys : List X) → Each P xs → Each P ys → Each P (xs ++ ys)
-each-join P [] ys h k = k
-each-join P (x ∷ xs) ys h k = (h.0, each-join P xs ys h.1 k)
-
 each-back : {X : Type 0} (P : X → Type 0) (xs : List X) → Each P xs → Each P (reverse xs)
 each-back P [] h = tt
-each-back P (x ∷ xs) h = subst (Each P) (sym (reverse-append (x ∷ []) xs)) (each-join P (reverse xs) (x ∷ []) (each-back P xs h.1) (h.0, tt))
+each-back P (x ∷ xs) h = subst (Each P) (sym (reverse-append (x ∷ []) xs)) (Each-join P (reverse xs) (x ∷ []) (each-back P xs h.1) (h.0, tt))
 
 each-from : {X : Type 0} (P : X → Type 0) (xs : List X) → ((j : ℕ) (d : X) → j < length xs → P (get_or xs j d)) → Each P xs
 each-from P [] h = tt
@@ -102,7 +99,7 @@ module _ (P : ℕ → Type 0) where
       (λ x h. p x (In-take (length ks) xs x (in-zip ks (take (length ks) xs) x h)), ids-names r (drop (length ks) xs) (λ x h. p x (In-drop (length ks) xs x h)))
   ids-names (bind u r) xs p =
       let m = length (scopes u) in
-      each-join (λ (b : Applied). (x : ℕ) → In x (values b.1) → P x) (ids_in u (take m (drop 1 xs))) (ids_in r (drop m (drop 1 xs)))
+      Each-join (λ (b : Applied). (x : ℕ) → In x (values b.1) → P x) (ids_in u (take m (drop 1 xs))) (ids_in r (drop m (drop 1 xs)))
       (ids-names u (take m (drop 1 xs)) (λ x h. p x (In-drop 1 xs x (In-take m (drop 1 xs) x h))))
       (ids-names r (drop m (drop 1 xs)) (λ x h. p x (In-drop 1 xs x (In-drop m (drop 1 xs) x h))))
 
@@ -176,7 +173,7 @@ module _ (old : Table) (k : Kept) (a : AppliedId) (good : Good k) where
     own-binders =
         let i = b.id.0 in
         let lt : i < length k.classes = omega (arith, next-full.in_range, length-nodes_of k) in
-        node_within (nodes_of k) can i next-full.in_range (node_at k i) (node_at-is k i lt)
+        node_within (nodes_of k) can i next-full.in_range (node_at k i) (node-is k i lt)
 
     fits-in : p.spent + node_binders (nodes_of k) b.id.0 ≤ term_binders (nodes_of k) a.id.0
     fits-in = omega (arith, p.within, ids_binders-append (nodes_of k) rest (to_applied b ∷ []), own-binders)
@@ -240,7 +237,7 @@ module _ (old : Table) (k : Kept) (a : AppliedId) (good : Good k) where
           let under : Each (IsLeft old k a w) cs =
           each-both (λ (d : Applied). IsFull (nodes_of k) d × (HasLargePart (nodes_of k) d.0 → HasLargePart (nodes_of k) a.id.0)) (λ (d : Applied). KnowsSlotsAnd old k a.m → AllKnown w (values d.1)) (IsLeft old k a w)
           (λ d one two. record { full = one.0; part = one.1; known = two }) cs of-node known in
-          subst (Each (IsLeft old k a w)) (sym o.children) (each-join (IsLeft old k a w) rest (reverse cs) later (each-back (IsLeft old k a w) cs under))
+          subst (Each (IsLeft old k a w)) (sym o.children) (Each-join (IsLeft old k a w) rest (reverse cs) later (each-back (IsLeft old k a w) cs under))
 
       counted : ids_binders (nodes_of k) next ≡ ids_binders (nodes_of k) rest + ids_binders (nodes_of k) cs
       counted = ap (ids_binders (nodes_of k)) o.children ∙ (ids_binders-append (nodes_of k) rest (reverse cs) ∙ ap (λ m. ids_binders (nodes_of k) rest + m) (binders-back (nodes_of k) cs))

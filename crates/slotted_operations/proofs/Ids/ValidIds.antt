@@ -1,10 +1,12 @@
 -- Ids that may lack names, as contracts see them and as what is kept has them.
-use Rattle.std.proofs.Common.{◌≡◌, ◌<◌, ℕ, List, [], ◌∷◌, length, take, drop, sym, ap, subst, arith, inl, inr}
+use Rattle.std.proofs.Common.{◌≡◌, ◌<◌, ℕ, List, [], length, take, drop, sym, ap, subst, arith}
 use Rattle.std.specs.Prelude.{All, Contains, IsTrue, slice_index_or}
-use Rattle.std.specs.List.{zip}
 use Rattle.std.specs.Map.{values_of}
+use Rattle.slotted_lists.proofs.Contained.{Contains-nil}
+use Rattle.slotted_lists.proofs.Members.{In, In-take, In-drop}
+use Rattle.slotted_lists.proofs.Each.{Each-from_All}
+use Rattle.slotted_lists.proofs.Maps.{In-zip}
 use Rattle.slotted_theory.specs.Renaming.{IsInjective}
-use Rattle.slotted_theory.proofs.Lists.{Contains-nil}
 use Rattle.slotted_slots.specs.Table.{is_known, AllKnown}
 use Rattle.slotted_nodes.specs.Form.{Form, children, child_place}
 use Rattle.slotted_languages.specs.NodeTerm.{nameless_node}
@@ -14,12 +16,11 @@ use Rattle.slotted_model.specs.Filling.{IsFilling}
 use Rattle.slotted_model.specs.Find.{Entry, find_map, used_slots}
 use Rattle.slotted_model.proofs.Correspondences.Pairs.{Contains-of_value}
 use Rattle.slotted_model.proofs.Finds.Finding.{leads, find_map-partial}
-use Rattle.slotted_model.proofs.Data.Members.{In}
 use Rattle.slotted_model.proofs.Finds.NormalIds.{used-by, of_used}
 use Rattle.slotted_model.proofs.Represented.RenamedIds.{valid-renamed}
 use Rattle.slotted_classes.specs.Finding.{IsFindable}
 use Rattle.slotted_classes.specs.Kept.{Kept, nodes_of, entries_of}
-use Rattle.slotted_classes.proofs.ChildIds.{Each-from_All, EachChild-node_args, child_with_keys, id_from, ids-at, length-ids}
+use Rattle.slotted_classes.proofs.ChildIds.{EachChild-node_args, child_with_keys, id_from, ids-at, length-ids}
 use Rattle.slotted_classes.proofs.KeptLists.{length-nodes_of}
 use Rattle.slotted_classes.proofs.NameMaps.{In-at, at_In}
 use Rattle.slotted_operations.specs.ValidIds.{IsValidId, slots_left, Fills}
@@ -28,7 +29,6 @@ use Rattle.slotted_operations.specs.Graph.{Graph}
 use Rattle.slotted_operations.specs.Image.{Image}
 use Rattle.slotted_operations.specs.Nodes.{child_ids}
 use Rattle.slotted_operations.proofs.Graphs.Images.{found-at}
-use Rattle.slotted_operations.proofs.LookUps.FoundNames.{In-drop, In-take}
 
 -- an id that finds is of a class
 pub findable-within : (k : Kept) (a : Applied) → IsFindable k a → a.0 < length k.classes
@@ -87,13 +87,6 @@ findable-children k good g image f fits all =
     EachChild-node_args (IsFindable k) (renamed-findable k) (λ x. x) (λ x y e. e) f.tree f.names fits
     (Each-from_All (IsFindable k) (child_ids f) (λ j d l. of-valid k good g image _ (all j d l)))
 
--- names of a child are names of the node
-in-zip : (ks vs : List ℕ) (x : ℕ) → In x (values (zip ks vs)) → In x vs
-in-zip [] vs x h = absurd h
-in-zip (k ∷ ks) [] x h = absurd h
-in-zip (k ∷ ks) (v ∷ vs) x (inl e) = inl e
-in-zip (k ∷ ks) (v ∷ vs) x (inr h) = inr (in-zip ks vs x h)
-
 child-known : (f : Form) (j : ℕ) (d : Applied) → j < length (child_ids f) → (P : ℕ → Type 0) → All P f.names → All P (values (slice_index_or (child_ids f) j d).1)
 child-known f j d l P all i e m =
     let c : j < length (children f.tree) = omega (arith, l, length-ids f.tree f.names) in
@@ -101,7 +94,7 @@ child-known f j d l P all i e m =
     let x : ℕ = slice_index_or (values (slice_index_or (child_ids f) j d).1) i e in
     let h : In x (values (id_from (child_with_keys f.tree j) (child_place f.tree j) f.names).1) =
     subst (λ (a : Applied). In x (values a.1)) at (In-at (values (slice_index_or (child_ids f) j d).1) i e m) in
-    at_In P f.names all x (In-drop (child_place f.tree j) f.names x (In-take (length (child_with_keys f.tree j).1) (drop (child_place f.tree j) f.names) x (in-zip (child_with_keys f.tree j).1 (take (length (child_with_keys f.tree j).1) (drop (child_place f.tree j) f.names)) x h)))
+    at_In P f.names all x (In-drop (child_place f.tree j) f.names x (In-take (length (child_with_keys f.tree j).1) (drop (child_place f.tree j) f.names) x (In-zip (child_with_keys f.tree j).1 (take (length (child_with_keys f.tree j).1) (drop (child_place f.tree j) f.names)) x h)))
 
 -- the children of a node with known names, one by one
 pub node-children_valid : (k : Kept) → Good k → (g : Graph) → image_of k ≡ g.image → (f : Form) → AllKnown g.table f.names → All (IsFindable k) (child_ids f) → All (IsValidId g) (child_ids f)

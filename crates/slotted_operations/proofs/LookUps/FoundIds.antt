@@ -1,6 +1,7 @@
 -- What a look-up answers: an id that is what it finds itself, with names of the node alone, and equal to the node by what was asserted.
 use Rattle.std.proofs.Common.{◌≡◌, ◌∙◌, ℕ, [], Option, None, Some, ap, refl, sym, subst}
 use Rattle.std.specs.Prelude.{IfSome, IsTrue, option_map, slice_index_or}
+use Rattle.slotted_lists.proofs.Members.{In}
 use Rattle.slotted_theory.specs.Derives.{Equal}
 use Rattle.slotted_theory.specs.Nameless.{DTerm, nameless}
 use Rattle.slotted_theory.specs.Shape.{free_names}
@@ -24,7 +25,6 @@ use Rattle.slotted_model.proofs.Rebuilding.Answers.{answer-found}
 use Rattle.slotted_model.proofs.Represented.Children.{EachChild-map}
 use Rattle.slotted_model.proofs.Represented.FilledNodes.{filled-full, filled-normal}
 use Rattle.slotted_model.proofs.Complete.LookUpsAreEqual.{filled-node_equal, node-equal}
-use Rattle.slotted_model.proofs.Data.Members.{In}
 use Rattle.slotted_model.proofs.Finds.NormalIds.{found-again, full-is_valid}
 use Rattle.slotted_model.proofs.Data.Options.{and_then-some}
 use Rattle.slotted_model.proofs.Rebuilding.Rows.{look_up_node-moved}

@@ -1,7 +1,8 @@
 -- The names of an answer are names of the node, so the table knows them.
-use Rattle.std.proofs.Common.{◌≡◌, ℕ, zero, suc, List, [], ◌∷◌, length, take, drop, map, sym, ◌∙◌, ap, refl, subst, arith, inl, inr}
+use Rattle.std.proofs.Common.{◌≡◌, ℕ, suc, List, [], ◌∷◌, length, take, drop, map, sym, ◌∙◌, ap, refl, subst, arith, inl, inr}
 use Rattle.std.specs.Prelude.{slice_index, slice_index_or, Some, All, IsTrue}
 use Rattle.std.proofs.lemmas.Bool.{cases_eq}
+use Rattle.slotted_lists.proofs.Members.{In, In-append, In-map, In-of_map, In-take, In-drop, In-first}
 use Rattle.slotted_theory.specs.Term.{Args, Term, done, name}
 use Rattle.slotted_theory.specs.Term as term
 use Rattle.slotted_theory.specs.Nameless.{DTerm, extend, nameless_args, nameless, moved}
@@ -15,7 +16,7 @@ use Rattle.slotted_languages.proofs.NodeTerms.{own_fits, child_rest_fits, bind_i
 use Rattle.slotted_model.specs.Applied.{Applied, keys, values}
 use Rattle.slotted_model.specs.Classes.{canonical_node, IsFull, Canonical, term_of, layer_of}
 use Rattle.slotted_model.specs.Ids.{id_of_node}
-use Rattle.slotted_model.proofs.Data.Members.{In, In-append, In-map, In-of_map, In-inside}
+use Rattle.slotted_model.proofs.Data.Members.{In-inside}
 use Rattle.slotted_model.proofs.Data.Sets.{In-ascending, In-of_ascending}
 use Rattle.slotted_model.proofs.Data.Maps.{values-map_on, map_on-filled}
 use Rattle.slotted_model.proofs.Data.Theory.{free_names-moved}
@@ -25,21 +26,6 @@ use Rattle.slotted_slots.specs.Table.{Table, is_known, AllKnown}
 use Rattle.slotted_model.specs.Ascending.{names}
 use Rattle.slotted_terms.specs.Valid.{HasKnownNames}
 use Rattle.slotted_classes.proofs.NameMaps.{In-at, at_In}
-
-pub In-take : (n : ℕ) (xs : List ℕ) (x : ℕ) → In x (take n xs) → In x xs
-In-take zero xs x h = absurd h
-In-take (suc n) [] x h = absurd h
-In-take (suc n) (y ∷ xs) x (inl e) = inl e
-In-take (suc n) (y ∷ xs) x (inr h) = inr (In-take n xs x h)
-
-pub In-drop : (n : ℕ) (xs : List ℕ) (x : ℕ) → In x (drop n xs) → In x xs
-In-drop zero xs x h = h
-In-drop (suc n) [] x h = absurd h
-In-drop (suc n) (y ∷ xs) x h = inr (In-drop n xs x h)
-
-In-head : (xs : List ℕ) (n : ℕ) → length xs ≡ suc n → In (slice_index xs 0) xs
-In-head [] n e = absurd (omega (arith, e))
-In-head (x ∷ xs) n e = inl refl
 
 -- y is the number of one of the names
 abbrev IsNumberOf : (ℕ → ℕ) → List ℕ → ℕ → Type 0
@@ -63,7 +49,7 @@ outer_number ρ b x y e = elim (cases_eq x b) [
 -- the free names of a node are names at its places
 pub free_from : (ρ : ℕ → ℕ) (t : Tree) (xs : List ℕ) → length xs ≡ length (scopes t) → (y : ℕ) → In y (free_names (nameless_args ρ (node_args t xs))) → IsNumberOf ρ xs y
 free_from ρ leaf xs n y h = absurd h
-free_from ρ (own r) xs n y (inl e) = (slice_index xs 0, In-head xs (length (scopes r)) n, e)
+free_from ρ (own r) xs n y (inl e) = (slice_index xs 0, In-first xs (length (scopes r)) n, e)
 free_from ρ (own r) xs n y (inr h) = wider ρ (drop 1 xs) xs y (In-drop 1 xs) (free_from ρ r (drop 1 xs) (own_fits r xs n) y h)
 free_from ρ (child i ks r) xs n y h = elim (In-append y (free_names (nameless_args ρ (own_names (take (length ks) xs)))) (free_names (nameless_args ρ (node_args r (drop (length ks) xs)))) h) [
   | inl a ↦ wider ρ (take (length ks) xs) xs y (In-take (length ks) xs) (own_free ρ (take (length ks) xs) y a)

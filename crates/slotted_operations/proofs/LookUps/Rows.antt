@@ -3,14 +3,15 @@ use Rattle.std.proofs.Common.{◌≡◌, ◌↔◌, ◌<◌, ℕ, zero, suc, ◌
 use Rattle.std.specs.Prelude.{option_map, IsTrue}
 use Rattle.std.proofs.lemmas.Bool.{cases_Bool, false≢true}
 use Rattle.std.proofs.lemmas.Bool.Decides.{same_from_decides}
-use Rattle.slotted_theory.specs.Nameless.{DTerm, stop, moved}
-use Rattle.slotted_theory.specs.Shape.{free_names, number_in, SameUpToNames}
+use Rattle.slotted_lists.proofs.Maps.{length-with_values}
+use Rattle.slotted_lists.proofs.Options.{Some-same}
+use Rattle.slotted_theory.specs.Nameless.{DTerm, stop}
+use Rattle.slotted_theory.specs.Shape.{free_names, SameUpToNames}
 use Rattle.slotted_theory.specs.Shape as theory
 use Rattle.slotted_theory.proofs.Values.{child_before}
 use Rattle.slotted_theory.proofs.Shapes.{shape_iff}
 use Rattle.slotted_theory.proofs.Bijections.{to-injective}
 use Rattle.slotted_theory.proofs.Decides.{args_eq_iff}
-use Rattle.slotted_theory.specs.FiniteMaps.{with_values}
 use Rattle.slotted_nodes.specs.Form.{Form}
 use Rattle.slotted_languages.specs.NodeTerm.{nameless_node}
 use Rattle.slotted_languages.specs.Shape.{shape, Fits}
@@ -19,11 +20,10 @@ use Rattle.slotted_model.specs.Applied.{Applied, map_on}
 use Rattle.slotted_model.specs.Classes.{term_at, canonical_node}
 use Rattle.slotted_model.specs.Ascending.{names}
 use Rattle.slotted_model.specs.Ids.{term_eq, first_shaped, name_for, class_with_names, id_of_node}
-use Rattle.slotted_model.proofs.Data.Members.{In}
-use Rattle.slotted_model.proofs.Data.Options.{None-Some, Some-same, option_map-some}
+use Rattle.slotted_model.proofs.Data.Options.{None-Some, option_map-some}
 use Rattle.slotted_model.proofs.Data.Sets.{In-of_ascending}
 use Rattle.slotted_model.proofs.Data.Maps.{map_on-agrees}
-use Rattle.slotted_model.proofs.Data.Theory.{free_names-moved, get_or-number_in}
+use Rattle.slotted_model.proofs.Represented.Ids.{name_for-moved}
 use Rattle.slotted_classes.specs.FormCode.{form_is, form_Decides}
 use Rattle.slotted_classes.specs.Names.{between}
 use Rattle.slotted_classes.specs.Kept.{Kept, ClassEntry, no_form, no_entry, found, rows_from, nodes_of}
@@ -83,12 +83,6 @@ found-first f hf i (c ∷ cs) h =
     ∙ one_row (term_eq (theory.shape (nameless_node c.0)) (theory.shape (nameless_node f))) i c cs o (found (rows_from (suc i) cs) (shape f).0)
     (found-first f hf (suc i) cs (λ j l. h (suc j) (omega arith)))
 
--- what f moves c to has f x where c has x first
-pub name_for-moved : (f : ℕ → ℕ) (c d : DTerm) → moved f c ≡ d → (x : ℕ) → In x (free_names c.args) → name_for c d x ≡ f x
-name_for-moved f c d e x h =
-    ap (λ ns. get_or ns (number_in (free_names c.args) x) 0) (ap (λ (t : DTerm). free_names t.args) (sym e) ∙ free_names-moved f c.args)
-    ∙ get_or-number_in f (free_names c.args) x h
-
 -- between nodes of one shape the map takes each name to the one that stands in its place
 pub between-names : (c f : Form) → Fits c → Fits f → (shape f).0 ≡ (shape c).0 → between (shape c).1 (shape f).1 ≡ map_on (name_for (nameless_node c) (nameless_node f)) (names (nameless_node c))
 between-names c f hc hf e =
@@ -134,10 +128,6 @@ first_none s (c ∷ cs) p j l e = elim (cases_Bool (term_eq (theory.shape (namel
       let q : option_map suc (first_shaped s (nameless_nodes cs)) ≡ None = sym (ap (λ b. cond b (Some 0) (option_map suc (first_shaped s (nameless_nodes cs)))) n) ∙ p in
       none_later s c cs (first_none s cs (no_first (first_shaped s (nameless_nodes cs)) q)) n j l e
 ]
-
-length-with_values : (f : ℕ → ℕ) (m : List (ℕ × ℕ)) → length (with_values f m) ≡ length m
-length-with_values f [] = refl
-length-with_values f (p ∷ m) = ap suc (length-with_values f m)
 
 -- the answer for a row: its class, with these names for the numbers of the shape
 abbrev pub answer : List (ℕ × ℕ) → ℕ × List (ℕ × ℕ) → Applied

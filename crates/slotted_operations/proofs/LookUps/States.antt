@@ -1,6 +1,7 @@
 -- What nodes and terms are looked up as: contracts say it by images and filed nodes, the model by its state.
 use Rattle.std.proofs.Common.{◌≡◌, ◌<◌, ◌∙◌, ℕ, List, Option, Some, None, length, ap, refl, sym, subst, arith}
 use Rattle.std.specs.Prelude.{option_map, option_and_then}
+use Rattle.slotted_lists.proofs.Options.{Some-same}
 use Rattle.slotted_theory.specs.Nameless.{DArgs, DTerm, stop, place, sub, scope}
 use Rattle.slotted_theory.specs.Shape.{shape}
 use Rattle.slotted_theory.proofs.Values.{node, child_before}
@@ -11,7 +12,7 @@ use Rattle.slotted_model.specs.Normal.{normal, normal_args}
 use Rattle.slotted_model.specs.State.{Row, State, look_up_node, look_up_tree, row_of, source_with_names}
 use Rattle.slotted_model.proofs.Finds.Congruence.{child-applied}
 use Rattle.slotted_model.proofs.Complete.LookUpsAreEqual.{node-equal}
-use Rattle.slotted_model.proofs.Data.Options.{Some-same, and_then-some, both-some, option_map-some}
+use Rattle.slotted_model.proofs.Data.Options.{and_then-some, both-some, option_map-some}
 use Rattle.slotted_model.proofs.Rebuilding.Rows.{row_of-some}
 use Rattle.slotted_classes.specs.Finding.{IsFindable}
 use Rattle.slotted_classes.specs.Kept.{Kept, entries_of, nodes_of}

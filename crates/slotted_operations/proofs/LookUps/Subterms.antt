@@ -3,6 +3,10 @@ use Rattle.std.proofs.Common.{◌≡◌, ◌<◌, ◌≤◌, ◌+◌, ◌∙◌,
 use Rattle.std.specs.Prelude.{◌⊎◌, IsSome, map, option_and_then, option_map, slice_index}
 use Rattle.std.specs.List.{zip}
 use Rattle.std.proofs.lemmas.Bool.{cases_eq, false≢true}
+use Rattle.slotted_lists.proofs.Members.{In}
+use Rattle.slotted_lists.proofs.Each.{Each}
+use Rattle.slotted_lists.proofs.Options.{Some-same}
+use Rattle.slotted_lists.proofs.Maps.{values-with_values}
 use Rattle.slotted_theory.specs.Nameless.{DTerm, place, scope, extend, moved, nameless, nameless_args, nameless_by}
 use Rattle.slotted_theory.specs.Renaming.{IsInjective, swapped}
 use Rattle.slotted_theory.specs.Shape.{free_names}
@@ -19,11 +23,8 @@ use Rattle.slotted_languages.proofs.NodeTerms.{own_fits, child_keys_fit, child_r
 use Rattle.slotted_model.specs.Applied.{Applied, as_term, renamed_id, values}
 use Rattle.slotted_model.specs.LookUp.{Renames, both, look_up, look_up_args}
 use Rattle.slotted_model.proofs.Represented.LookUps.{look_up-moved}
-use Rattle.slotted_model.proofs.Data.Maps.{values-with_values}
-use Rattle.slotted_model.proofs.Data.Members.{In}
-use Rattle.slotted_model.proofs.Data.Options.{Some-same}
 use Rattle.slotted_model.proofs.Data.Theory.{moved-agrees, moved-id}
-use Rattle.slotted_classes.proofs.ChildIds.{Each, atom-is, length-ids}
+use Rattle.slotted_classes.proofs.ChildIds.{atom-is, length-ids}
 use Rattle.slotted_operations.specs.Nodes.{ids_in}
 use Rattle.slotted_operations.proofs.TermsOverIds.Layers.{Each-parts, length-parts}
 

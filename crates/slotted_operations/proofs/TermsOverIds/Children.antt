@@ -3,6 +3,7 @@ use Rattle.std.proofs.Common.{◌≡◌, ◌<◌, ◌≤◌, ℕ, zero, suc, ◌
 use Rattle.std.specs.Prelude.{slice_index_or, slice_set, Option, None}
 use Rattle.std.specs.List.{zip}
 use Rattle.std.proofs.lemmas.Bool.{lt-ltb, le-ltb, cases_lt}
+use Rattle.slotted_lists.proofs.Lists.{take-append, drop-append}
 use Rattle.slotted_theory.specs.Term.{Args, Term, name}
 use Rattle.slotted_theory.specs.Term as term
 use Rattle.slotted_nodes.specs.Form.{Tree, leaf, own, child, bind, scopes, children, child_place, width, with_child_in}
@@ -12,18 +13,6 @@ use Rattle.slotted_operations.specs.Nodes.{ids_in}
 use Rattle.slotted_classes.proofs.ChildIds.{length-ids, drop-plus, take-take}
 
 -- lists cut in two
-
-take-app : {X : Type 0} (xs ys : List X) (n : ℕ) → length xs ≡ n → take n (xs ++ ys) ≡ xs
-take-app [] ys zero e = refl
-take-app [] ys (suc n) e = absurd (omega (arith, e))
-take-app (x ∷ xs) ys zero e = absurd (omega (arith, e))
-take-app (x ∷ xs) ys (suc n) e = ap (λ r. x ∷ r) (take-app xs ys n (omega (arith, e)))
-
-drop-app : {X : Type 0} (xs ys : List X) (n : ℕ) → length xs ≡ n → drop n (xs ++ ys) ≡ ys
-drop-app [] ys zero e = refl
-drop-app [] ys (suc n) e = absurd (omega (arith, e))
-drop-app (x ∷ xs) ys zero e = absurd (omega (arith, e))
-drop-app (x ∷ xs) ys (suc n) e = drop-app xs ys n (omega (arith, e))
 
 take-plus : {X : Type 0} (n p : ℕ) (xs : List X) → take (n + p) xs ≡ take n xs ++ take p (drop n xs)
 take-plus zero p xs = let e : 0 + p ≡ p = omega arith in ap (λ m. take m xs) e
@@ -149,7 +138,7 @@ plugs (child i ks r) xs zero j ls vs n h e =
     let d : List ℕ = drop (length ks) xs in
     let s : spliced (child i ks r) zero vs xs ≡ vs ++ d = cut-first (length ks) vs xs in (
       ap (λ l. ids_in (child j ls r) l) s
-          ∙ (λ a. (j, zip ls (take-app vs d (length ls) e a)) ∷ ids_in r (drop-app vs d (length ls) e a)),
+          ∙ (λ a. (j, zip ls (take-append vs d (length ls) e a)) ∷ ids_in r (drop-append vs d (length ls) e a)),
       first s,
     )
   where
@@ -157,7 +146,7 @@ plugs (child i ks r) xs zero j ls vs n h e =
     first s [] m = absurd (omega (arith, m))
     first s (u ∷ us) m =
         ap (λ l. term.child u.op u.payloads u.args (filled r (drop (length ls) l) us)) s
-        ∙ ap (λ l. term.child u.op u.payloads u.args (filled r l us)) (drop-app vs (drop (length ks) xs) (length ls) e)
+        ∙ ap (λ l. term.child u.op u.payloads u.args (filled r l us)) (drop-append vs (drop (length ks) xs) (length ls) e)
 plugs (child i ks r) xs (suc k) j ls vs n h e =
     let m = length ks in
     let a : List ℕ = take m xs in
@@ -168,7 +157,7 @@ plugs (child i ks r) xs (suc k) j ls vs n h e =
     let s : spliced (child i ks r) (suc k) vs xs ≡ a ++ spliced r k vs d = cut-later m (child_place r k) (width r k) vs xs in
     let q : Plugs r d k j ls vs = plugs r d k j ls vs ld (omega arith) e in (
       ap (λ l. ids_in (child i ks (with_child_in r k j ls)) l) s
-          ∙ ((λ b. (i, zip ks (take-app a (spliced r k vs d) m la b)) ∷ ids_in (with_child_in r k j ls) (drop-app a (spliced r k vs d) m la b))
+          ∙ ((λ b. (i, zip ks (take-append a (spliced r k vs d) m la b)) ∷ ids_in (with_child_in r k j ls) (drop-append a (spliced r k vs d) m la b))
           ∙ ap (λ l. (i, zip ks a) ∷ l) q.0),
       λ us o. ap (λ l. filled (child i ks (with_child_in r k j ls)) l us) s ∙ later la q us o,
     )
@@ -180,7 +169,7 @@ plugs (child i ks r) xs (suc k) j ls vs n h e =
     later : length (take (length ks) xs) ≡ length ks → Plugs r (drop (length ks) xs) k j ls vs → (us : List Term) → length us ≡ suc (length (children r)) → filled (child i ks (with_child_in r k j ls)) (take (length ks) xs ++ spliced r k vs (drop (length ks) xs)) us ≡ filled (child i ks r) xs us
     later la q [] o = absurd (omega (arith, o))
     later la q (u ∷ us) o =
-        ap (λ l. term.child u.op u.payloads u.args (filled (with_child_in r k j ls) l us)) (drop-app (take (length ks) xs) (spliced r k vs (drop (length ks) xs)) (length ks) la)
+        ap (λ l. term.child u.op u.payloads u.args (filled (with_child_in r k j ls) l us)) (drop-append (take (length ks) xs) (spliced r k vs (drop (length ks) xs)) (length ks) la)
         ∙ ap (term.child u.op u.payloads u.args) (q.1 us (omega (arith, o)))
 plugs (bind u r) [] k j ls vs n h e = absurd (omega (arith, n))
 plugs (bind u r) (x ∷ ys) k j ls vs n h e =
@@ -205,11 +194,11 @@ plugs (bind u r) (x ∷ ys) k j ls vs n h e =
           let f : length su ≡ length (scopes v) = fits-spliced u k j ls vs us lu l e in
           let cv : length (children v) ≡ c = length_children-with_child_in u k j ls in (
             (λ a. ids_in (t a) (s a))
-                ∙ ((λ a. ids_in v (take-app su rs (length (scopes v)) f a) ++ ids_in r (drop-app su rs (length (scopes v)) f a))
+                ∙ ((λ a. ids_in v (take-append su rs (length (scopes v)) f a) ++ ids_in r (drop-append su rs (length (scopes v)) f a))
                 ∙ (ap (λ z. z ++ ids_in r rs) q.0 ∙ sym (set-left (ids_in u us) (ids_in r rs) k (j, zip ls vs) (omega (arith, l, length-ids u us))))),
             λ ts o.
                 (λ a. filled (t a) (s a) ts)
-                ∙ ((λ a. term.bind x (filled v (take-app su rs (length (scopes v)) f a) (take (cv a) ts)) (filled r (drop-app su rs (length (scopes v)) f a) (drop (cv a) ts)))
+                ∙ ((λ a. term.bind x (filled v (take-append su rs (length (scopes v)) f a) (take (cv a) ts)) (filled r (drop-append su rs (length (scopes v)) f a) (drop (cv a) ts)))
                 ∙ ap (λ z. term.bind x z (filled r rs (drop c ts))) (q.1 (take c ts) (length-take c ts (omega (arith, o, length-append (children u) (children r)))))),
           )
       | inr g ↦
@@ -227,12 +216,12 @@ plugs (bind u r) (x ∷ ys) k j ls vs n h e =
           let q : Plugs r rs i j ls vs = plugs r rs i j ls vs lr li e in
           let at : length (ids_in u us) + i ≡ k = omega (arith, ki, length-ids u us) in (
             (λ a. ids_in (t a) (s a))
-                ∙ ((λ a. ids_in u (take-app us sr m lu a) ++ ids_in v (drop-app us sr m lu a))
+                ∙ ((λ a. ids_in u (take-append us sr m lu a) ++ ids_in v (drop-append us sr m lu a))
                 ∙ (ap (λ z. ids_in u us ++ z) q.0 ∙ (sym (set-right (ids_in u us) (ids_in r rs) i (j, zip ls vs)) ∙ ap (λ (z : ℕ). slice_set (ids_in u us ++ ids_in r rs) z (j, zip ls vs)) at))),
             λ ts o.
                 let lo : length (drop c ts) ≡ length (children r) = omega (arith, o, length-append (children u) (children r), length-drop_plus c ts (omega (arith, o, length-append (children u) (children r)))) in
                 (λ a. filled (t a) (s a) ts)
-                ∙ ((λ a. term.bind x (filled u (take-app us sr m lu a) (take c ts)) (filled v (drop-app us sr m lu a) (drop c ts)))
+                ∙ ((λ a. term.bind x (filled u (take-append us sr m lu a) (take c ts)) (filled v (drop-append us sr m lu a) (drop c ts)))
                 ∙ ap (λ z. term.bind x (filled u us (take c ts)) z) (q.1 (drop c ts) lo)),
           )
     ]

@@ -2,13 +2,13 @@
 -- node's own canonical term.
 use Rattle.std.proofs.Common.{◌≡◌, ◌<◌, ℕ, zero, suc, List, [], ◌∷◌, length, take, drop, sym, ap, refl, subst, inl, inr, arith}
 use Rattle.std.specs.Prelude.{slice_index, slice_index_or}
+use Rattle.slotted_lists.proofs.Members.{In, In-append}
 use Rattle.slotted_theory.specs.Nameless.{DArgs, DTerm, stop, place, sub, scope, extend, lift, moved, moved_args, nameless_args}
 use Rattle.slotted_nodes.specs.Form.{Form, Tree, leaf, own, child, bind, scopes}
 use Rattle.slotted_languages.specs.NodeTerm.{node_args}
 use Rattle.slotted_theory.specs.FiniteMaps.{filled}
 use Rattle.slotted_model.specs.Applied.{Applied}
 use Rattle.slotted_model.specs.Classes.{canonical_node}
-use Rattle.slotted_model.proofs.Data.Members.{In, In-append}
 use Rattle.slotted_operations.specs.Canonical.{IsNodeOf}
 use Rattle.slotted_operations.specs.Causes.{HasChildOf, HasLargePart}
 use Rattle.slotted_operations.specs.Nodes.{ids_in, child_ids}

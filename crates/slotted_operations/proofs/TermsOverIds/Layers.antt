@@ -1,7 +1,8 @@
 -- A node over ids that stand for terms stands for the node over these terms.
-use Rattle.std.proofs.Common.{◌≡◌, ◌<◌, ◌≤◌, ℕ, zero, suc, ◌+◌, List, [], ◌∷◌, ◌++◌, length, take, drop, get_or, ◌∙◌, ap, refl, arith, length-append}
+use Rattle.std.proofs.Common.{◌≡◌, ◌<◌, ◌≤◌, ℕ, zero, suc, ◌+◌, List, [], ◌∷◌, ◌++◌, length, take, drop, get_or, ◌∙◌, ap, refl, arith}
 use Rattle.std.specs.Prelude.{slice_index}
 use Rattle.std.specs.List.{zip}
+use Rattle.slotted_lists.proofs.Each.{Each}
 use Rattle.slotted_theory.specs.Term.{Term, term_size}
 use Rattle.slotted_theory.specs.Nameless.{DTerm, place, scope, extend, nameless_args, nameless_by, nameless, moved}
 use Rattle.slotted_theory.proofs.Laws.{moved-nameless}
@@ -18,7 +19,7 @@ use Rattle.slotted_model.proofs.Represented.Children.{KeysAreNames, expand-as_te
 use Rattle.slotted_model.proofs.Represented.Full.{full-keys}
 use Rattle.slotted_terms.specs.Valid.{IsWhole}
 use Rattle.slotted_operations.specs.Nodes.{ids_in}
-use Rattle.slotted_classes.proofs.ChildIds.{length-ids, atom-is, Each}
+use Rattle.slotted_classes.proofs.ChildIds.{length-ids, atom-is}
 
 module _ (ts : List DTerm) where
   -- the ids stand for the terms in turn
@@ -77,17 +78,6 @@ pub Each-parts : {X : Type 0} (P : X → Type 0) (n : ℕ) (xs : List X) → Eac
 Each-parts P zero xs a b = b
 Each-parts P (suc n) [] a b = tt
 Each-parts P (suc n) (x ∷ xs) a b = (a.0, Each-parts P n xs a.1 b)
-
-pub whole_count : (t : Tree) (xs : List ℕ) (us : List Term) → IsWhole (filled t xs us) → length us ≡ length (children t)
-whole_count leaf xs [] w = refl
-whole_count leaf xs (u ∷ us) w = absurd (omega (arith, w.0))
-whole_count (own r) xs us w = whole_count r (drop 1 xs) us w
-whole_count (child i ks r) xs [] w = absurd (omega (arith, w.0))
-whole_count (child i ks r) xs (u ∷ us) w = ap suc (whole_count r (drop (length ks) xs) us w.2)
-whole_count (bind u r) xs us w =
-    let s = length (scopes u) in
-    let c = length (children u) in
-    omega (arith, length-append (children u) (children r), length-parts c us, whole_count u (take s (drop 1 xs)) (take c us) w.0, whole_count r (drop s (drop 1 xs)) (drop c us) w.1)
 
 pub whole_each : (t : Tree) (xs : List ℕ) (us : List Term) → IsWhole (filled t xs us) → Each (λ (u : Term). IsWhole u.args) us
 whole_each leaf xs [] w = tt

@@ -2,6 +2,8 @@
 use Rattle.std.proofs.Common.{◌≡◌, ◌<◌, ◌≤◌, ℕ, zero, suc, ◌+◌, List, [], ◌∷◌, ◌++◌, length, take, drop, map, get_or, sym, ◌∙◌, ap, refl, arith, length-append}
 use Rattle.std.specs.Prelude.{Option, None, slice_index}
 use Rattle.std.specs.List.{zip}
+use Rattle.slotted_lists.proofs.Maps.{length-values, length-keys}
+use Rattle.slotted_lists.proofs.Lists.{length-map_names}
 use Rattle.slotted_theory.specs.Term.{Args, Term, done, name}
 use Rattle.slotted_theory.specs.Term as term
 use Rattle.slotted_theory.specs.Nameless.{DTerm, extend, nameless_args, nameless}
@@ -23,11 +25,6 @@ use Rattle.slotted_operations.specs.Nodes.{ids_in, child_ids}
 use Rattle.slotted_operations.specs.Places.{args_places, term_places}
 use Rattle.slotted_classes.proofs.ChildIds.{length-ids}
 use Rattle.slotted_classes.proofs.NameCounts.{length-ascending, length-outside}
-use Rattle.slotted_classes.proofs.NameMaps.{length-keys, length-values}
-
-length-mapped : (f : ℕ → ℕ) (xs : List ℕ) → length (map f xs) ≡ length xs
-length-mapped f [] = refl
-length-mapped f (x ∷ xs) = ap suc (length-mapped f xs)
 
 pub free_fit : (ρ : ℕ → ℕ) (a : Args) → length (free_names (nameless_args ρ a)) ≤ args_places a
 free_fit ρ done = omega arith
@@ -43,7 +40,7 @@ names_fit nodes can a full u e =
     let c : DTerm = canonical_term nodes a.0 in
     let k : length (keys a.1) ≡ length (ascending (free_names c.args)) = ap length full.slots ∙ sym (ap length (canonical_term-names nodes can a.0 full.in_range)) in
     let f : length (free_names c.args) ≡ length (free_names (nameless u).args) =
-    sym (length-mapped (filled a.1) (free_names c.args)) ∙ (ap length (sym (free_names-moved (filled a.1) c.args)) ∙ ap (λ (t : DTerm). length (free_names t.args)) e) in
+    sym (length-map_names (filled a.1) (free_names c.args)) ∙ (ap length (sym (free_names-moved (filled a.1) c.args)) ∙ ap (λ (t : DTerm). length (free_names t.args)) e) in
     omega (arith, length-values a.1, length-keys a.1, k, f, length-ascending (free_names c.args), free_fit (λ x. x) u.args)
 
 -- each id has no more names than its term has places

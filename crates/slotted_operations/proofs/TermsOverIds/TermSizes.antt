@@ -11,7 +11,8 @@ use Rattle.slotted_terms.specs.Valid.{IsWhole, HasKnownNames}
 use Rattle.slotted_operations.specs.Nodes.{IsValidOver}
 use Rattle.slotted_operations.specs.SmallNodes.{HasSmallNodes, IsSmallValidTerm, IsTermOver, total_size}
 use Rattle.slotted_terms.proofs.SubtermSizes.{total, total_le-term}
-use Rattle.slotted_operations.proofs.TermsOverIds.Layers.{each_at, whole_count, whole_each}
+use Rattle.slotted_terms.proofs.TermPatterns.{whole_count}
+use Rattle.slotted_operations.proofs.TermsOverIds.Layers.{each_at, whole_each}
 use Rattle.slotted_operations.proofs.TermsOverIds.ValidTerms.{filled_known, known_each, small_each, valid_term}
 
 total-is : (us : List Term) → total_size us ≡ total us

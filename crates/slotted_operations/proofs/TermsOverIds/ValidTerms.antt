@@ -2,6 +2,7 @@
 use Rattle.std.proofs.Common.{◌≡◌, ◌<◌, ◌≤◌, ◌⊎◌, ℕ, zero, suc, ◌+◌, ◌-◌, List, [], ◌∷◌, length, take, drop, get_or, cond, sym, ◌∙◌, ap, refl, subst, arith, inl, inr, length-append}
 use Rattle.std.specs.Prelude.{IsTrue}
 use Rattle.std.proofs.lemmas.Bool.{lt-ltb, le-ltb, cases_lt}
+use Rattle.slotted_lists.proofs.Each.{Each, Each-take, Each-drop}
 use Rattle.slotted_theory.specs.Term.{Term}
 use Rattle.slotted_slots.specs.Table.{Table, is_known}
 use Rattle.slotted_nodes.specs.Form.{Form, Tree, leaf, own, child, bind, scopes, children, child_place, width}
@@ -12,7 +13,6 @@ use Rattle.slotted_languages.proofs.NodeTerms.{child_rest_fits}
 use Rattle.slotted_terms.specs.Valid.{IsWhole, HasKnownNames, IsValidTerm}
 use Rattle.slotted_operations.specs.Nodes.{IsChildPlace}
 use Rattle.slotted_operations.specs.SmallNodes.{HasSmallNodes, HasSmallParts}
-use Rattle.slotted_classes.proofs.ChildIds.{Each}
 use Rattle.slotted_operations.proofs.TermsOverIds.Children.{at-left, at-right}
 use Rattle.slotted_operations.proofs.TermsOverIds.Layers.{Each-parts, length-parts}
 
@@ -35,17 +35,6 @@ drop_bound : (n : ℕ) (xs : List ℕ) (i : ℕ) → i < length (drop n xs) → 
 drop_bound zero xs i l = omega arith
 drop_bound (suc n) [] i l = absurd (omega arith)
 drop_bound (suc n) (x ∷ xs) i l = omega (arith, drop_bound n xs i l)
-
--- each part of a list that is cut in two
-each-take : {X : Type 0} (P : X → Type 0) (n : ℕ) (xs : List X) → Each P xs → Each P (take n xs)
-each-take P zero xs h = tt
-each-take P (suc n) [] h = tt
-each-take P (suc n) (x ∷ xs) h = (h.0, each-take P n xs h.1)
-
-each-drop : {X : Type 0} (P : X → Type 0) (n : ℕ) (xs : List X) → Each P xs → Each P (drop n xs)
-each-drop P zero xs h = h
-each-drop P (suc n) [] h = tt
-each-drop P (suc n) (x ∷ xs) h = each-drop P n xs h.1
 
 take_count : {X : Type 0} (c r : ℕ) (xs : List X) → length xs ≡ c + r → length (take c xs) ≡ c
 take_count zero r xs e = refl
@@ -121,12 +110,12 @@ known_filled t (bind u r) (x ∷ ys) n p us c h =
           (λ i l. elim (p (suc i) (omega (arith, l, lt, nn))) [
             | inl q ↦ inl (inner_place u r i (omega (arith, l, lt)) q)
             | inr a ↦ inr (subst (λ z. IsTrue (is_known t z)) (sym (get-take m ys i (omega (arith, l, lt)))) a)
-          ]) (take k us) lk (each-take (λ (v : Term). HasKnownNames t v.args) k us h),
+          ]) (take k us) lk (Each-take (λ (v : Term). HasKnownNames t v.args) k us h),
       known_filled t r (drop m ys) (omega (arith, lt, nn, length-parts m ys))
           (λ i l. elim (p (suc (m + i)) (omega (arith, l, lt, length-parts m ys))) [
             | inl q ↦ inl (rest_place u r i q)
             | inr a ↦ inr (subst (λ z. IsTrue (is_known t z)) (sym (get-drop m ys i)) a)
-          ]) (drop k us) (omega (arith, lk, cs, length-parts k us)) (each-drop (λ (v : Term). HasKnownNames t v.args) k us h),
+          ]) (drop k us) (omega (arith, lk, cs, length-parts k us)) (Each-drop (λ (v : Term). HasKnownNames t v.args) k us h),
     )
 
 -- a node with the right number of children, which are whole, is whole
@@ -140,8 +129,8 @@ whole_filled (bind u r) xs us c h =
     let k = length (children u) in
     let cs : length us ≡ k + length (children r) = omega (arith, c, length-append (children u) (children r)) in
     let lk : length (take k us) ≡ k = take_count k (length (children r)) us cs in (
-      whole_filled u (take (length (scopes u)) (drop 1 xs)) (take k us) lk (each-take (λ (v : Term). (0 < v.op) × IsWhole v.args) k us h),
-      whole_filled r (drop (length (scopes u)) (drop 1 xs)) (drop k us) (omega (arith, lk, cs, length-parts k us)) (each-drop (λ (v : Term). (0 < v.op) × IsWhole v.args) k us h),
+      whole_filled u (take (length (scopes u)) (drop 1 xs)) (take k us) lk (Each-take (λ (v : Term). (0 < v.op) × IsWhole v.args) k us h),
+      whole_filled r (drop (length (scopes u)) (drop 1 xs)) (drop k us) (omega (arith, lk, cs, length-parts k us)) (Each-drop (λ (v : Term). (0 < v.op) × IsWhole v.args) k us h),
     )
 
 pub Each-from : {X : Type 0} (P : X → Type 0) (xs : List X) → ((j : ℕ) (d : X) → j < length xs → P (get_or xs j d)) → Each P xs

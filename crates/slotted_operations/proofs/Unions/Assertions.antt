@@ -28,6 +28,7 @@ use Rattle.slotted_classes.specs.StateOf.{state_of, state_with}
 use Rattle.slotted_classes.specs.Stored.{Stored, IsOverOneClass}
 use Rattle.slotted_unions.specs.Grows.{Grows}
 use Rattle.slotted_unions.proofs.GrownRows.{grown-count, grown-rows}
+use Rattle.slotted_unions.proofs.EnteredProofs.{entered-more}
 use Rattle.slotted_hashcons.specs.WellFiled.{state_in, IsWellFiled}
 use Rattle.slotted_rebuilding.proofs.FiledStates.{fits-grown, places-grown}
 use Rattle.slotted_operations.specs.Good.{image_of, Good}
@@ -44,13 +45,6 @@ pub record IsAsserted (k m : Kept) (x : Proven) (a b : Applied) (p : ℕ) : Type
   pub in_range : p < length m.proofs
   pub asserts : Asserts (image_of k) (image_of m) (equation_of a b)
   pub records : Records (image_of k) (image_of m) x
-
--- how a list grew by an entry
-entered-more : (old new : List Proven) (x : Proven) (p : ℕ) → Enters old new x p → (more : List Proven) × (new ≡ old ++ more)
-entered-more old new x p enters = elim enters.grows [
-  | inl e ↦ ([], e.1 ∙ sym (append-nil old))
-  | inr e ↦ (x ∷ [], e.2)
-]
 
 module _ (k : Kept) (good : Good k) (a b : Applied) (fa : IsFull (nodes_of k) a) (fb : IsFull (nodes_of k) b) (text : Option (List ℕ)) where
   abbrev nodes : List DTerm

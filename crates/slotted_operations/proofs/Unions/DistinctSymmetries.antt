@@ -1,10 +1,11 @@
 -- No two listed symmetries say the same.
 use Rattle.std.proofs.Common.{◌≡◌, ◌<◌, ℕ, zero, suc, List, [], ◌∷◌, length, sym, ◌∙◌, ap, refl, subst, arith}
 use Rattle.std.specs.Prelude.{Contains, slice_index_or}
-use Rattle.slotted_theory.proofs.Lists.{contains_head, contains_tail}
+use Rattle.slotted_lists.proofs.Contained.{contains_head, contains_tail}
+use Rattle.slotted_lists.proofs.Lists.{slice_index_or-map}
 use Rattle.slotted_model.specs.Correspondence.{AllDifferent}
 use Rattle.slotted_classes.specs.Kept.{Kept, SymmetryEntry}
-use Rattle.slotted_classes.proofs.KeptLists.{at-mapped, length-mapped}
+use Rattle.slotted_classes.proofs.KeptLists.{length-mapped}
 use Rattle.slotted_classes.specs.Stored.{proofs_listed}
 use Rattle.slotted_operations.specs.Good.{Good, image_of}
 use Rattle.slotted_operations.specs.Image.{IsSymmetry, AreListedOnce, no_symmetry}
@@ -33,5 +34,5 @@ listed_once k good i j h l e =
     let number : y.1 ≡ z.1 = good.stored.sane.sound.proved.once y.1 z.1 first.in_range second.in_range (first.proof ∙ (e ∙ sym second.proof)) in
     let n : length (proofs_listed k) ≡ length k.symmetries = length-mapped (λ (x : SymmetryEntry). x.1) k.symmetries in
     different-index (proofs_listed k) good.stored.once i j (omega (arith, h, n)) (omega (arith, l, n))
-    (at-mapped (λ (x : SymmetryEntry). x.1) k.symmetries i no_symmetry
-    ∙ (number ∙ sym (at-mapped (λ (x : SymmetryEntry). x.1) k.symmetries j no_symmetry)))
+    (slice_index_or-map (λ (x : SymmetryEntry). x.1) k.symmetries i no_symmetry
+    ∙ (number ∙ sym (slice_index_or-map (λ (x : SymmetryEntry). x.1) k.symmetries j no_symmetry)))

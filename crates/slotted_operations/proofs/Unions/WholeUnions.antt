@@ -3,6 +3,7 @@ use Rattle.std.proofs.Common.{◌≡◌, ◌≢◌, ◌<◌, ◌≤◌, ◌+◌,
 use Rattle.std.specs.Prelude.{Contains, Option, map}
 use Rattle.std.proofs.lemmas.Bool.{cases_lt}
 use Rattle.std.proofs.lemmas.List.{map-append, get_or_append_left}
+use Rattle.slotted_lists.proofs.Maps.{length-keys}
 use Rattle.slotted_model.specs.Adding as adding
 use Rattle.slotted_model.specs.Adding.{HasAsserted, IsExactAssertion}
 use Rattle.slotted_model.specs.Applied.{Applied, values}
@@ -23,7 +24,6 @@ use Rattle.slotted_proofs.specs.Entries.{Proven, entry_of, nothing_proven, state
 use Rattle.slotted_classes.specs.Counts.{Counts}
 use Rattle.slotted_classes.specs.Kept.{Kept, nodes_of, entries_of, proofs_of, size_of, EntersIn}
 use Rattle.slotted_classes.proofs.KeptLists.{equation_at-of, length-nodes_of, length-proofs_of}
-use Rattle.slotted_classes.proofs.NameMaps.{length-keys}
 use Rattle.slotted_hashcons.specs.FiledRows.{Rows, rows_in}
 use Rattle.slotted_unions.specs.Proving as unions
 use Rattle.slotted_classes.specs.StateOf.{state_of}
@@ -34,6 +34,7 @@ use Rattle.slotted_hashcons.specs.WellFiled.{state_in, IsWellFiled}
 use Rattle.slotted_rebuilding.specs.Filed.{UnitesFiled}
 use Rattle.slotted_rebuilding.specs.Turns.{Rebuilds}
 use Rattle.slotted_rebuilding.proofs.RebuildCounts.{rebuild-fits}
+use Rattle.slotted_rebuilding.proofs.LargeClasses.{full-within}
 use Rattle.slotted_operations.specs.Causes.{HasLargeClassIn, HasLargeClassOf, class_found}
 use Rattle.slotted_operations.specs.Good.{Good, KeepsNotes, NeverMore, NotesLast, RestsWith, image_of}
 use Rattle.slotted_operations.specs.Image.{Asserts, AreTogether, Continues, FoundAlike, Records, SameNames, asserted_in, found_id, live_size}
@@ -216,9 +217,6 @@ module _ (k : Kept) (r : Rows) (good : Good k) (rests : RestsWith k r) (a b : Ap
     records = records-more (image_of k) (image_of m) (image_of l) x said.records grows-after.more grows-after.proofs;
   }
 
-within-old : (k : Kept) (a : Applied) → IsFull (nodes_of k) a → a.0 < length k.classes
-within-old k a full = let h : a.0 < length (nodes_of k) = full.in_range in let n : length (nodes_of k) ≡ length k.classes = length-nodes_of k in omega arith
-
 -- a large class of one of two ids, as a union tells of it
 pub large-class_of : (k : Kept) (a b : Applied) → IsFull (nodes_of k) a → IsFull (nodes_of k) b → unions.HasLargeClassOf k a.0 b.0 → HasLargeClassOf (image_of k) a b
 large-class_of k a b fa fb h =
@@ -227,8 +225,8 @@ large-class_of k a b fa fb h =
       h.0,
       omega (arith, h.1, n),
       elim h.2 [
-        | inl e ↦ inl (here ∙ (e ∙ sym (class_found-is k a.0 (within-old k a fa))))
-        | inr e ↦ inr (here ∙ (e ∙ sym (class_found-is k b.0 (within-old k b fb))))
+        | inl e ↦ inl (here ∙ (e ∙ sym (class_found-is k a.0 (full-within k a fa))))
+        | inr e ↦ inr (here ∙ (e ∙ sym (class_found-is k b.0 (full-within k b fb))))
       ],
       h.3,
     )

@@ -1,8 +1,8 @@
 use Rattle.std.proofs.Common.{◌≡◌, ◌∙◌, subst, sym}
 use Rattle.std.proofs.lemmas.Result.{err_from_is_err_and}
+use Rattle.slotted_lists.proofs.Options.{Some-same}
 use Rattle.slotted_theory.specs.Term.{Term}
 use Rattle.slotted_terms.specs.Valid.{IsWhole}
-use Rattle.slotted_model.proofs.Data.Options.{Some-same}
 use Rattle.slotted_costs.specs.Costs.{costs_by, cost_of_term}
 use Rattle.slotted_workspace.proofs.Handles.{stands-changed}
 use Rattle.slotted_arrays.specs.Optimising.{Derives, not_added, not_derived, not_priced, not_run}

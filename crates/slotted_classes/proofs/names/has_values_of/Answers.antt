@@ -2,9 +2,10 @@ use Rattle.std.proofs.Common.{◌≡◌, ◌<◌, ◌∙◌, length, sym, subst,
 use Rattle.std.specs.Prelude.{Contains}
 use Rattle.std.proofs.lemmas.Bool.{false≢true}
 use Rattle.std.proofs.lemmas.Option.{get_or_from_slice_get}
+use Rattle.slotted_lists.proofs.Members.{In, In-Contains, Contains-In}
+use Rattle.slotted_lists.proofs.Maps.{length-values}
 use Rattle.slotted_slots.specs.Maps.{values}
-use Rattle.slotted_model.proofs.Data.Members.{In, In-Contains, Contains-In}
-use Rattle.slotted_classes.proofs.NameMaps.{In-at, at_In, length-values, below_next}
+use Rattle.slotted_classes.proofs.NameMaps.{In-at, at_In, below_next}
 use Rattle.slotted_classes.proofs.names.has_values_of.Goals as goal
 
 pub returns-then-not-has_value : goal.returns-then-not-has_value

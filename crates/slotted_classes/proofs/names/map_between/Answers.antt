@@ -1,8 +1,9 @@
 use Rattle.std.proofs.Common.{◌<◌, ◌+◌, ◌∙◌, ℕ, List, arith, length, ap, drop}
 use Rattle.std.specs.List.{zip}
+use Rattle.slotted_lists.proofs.Maps.{length-values}
 use Rattle.slotted_slots.specs.Maps.{values}
 use Rattle.slotted_classes.specs.Names.{with_pairs}
-use Rattle.slotted_classes.proofs.NameMaps.{with_pairs-step, length-values}
+use Rattle.slotted_classes.proofs.NameMaps.{with_pairs-step}
 use Rattle.slotted_classes.proofs.names.map_between.Goals as goal
 
 pub loop-i-preserved : goal.loop-i-preserved

@@ -1,9 +1,9 @@
 -- Each node is weighed over the trees that were built last.
 use Rattle.std.proofs.Common.{◌≡◌, ℕ, ◌++◌, ◌∷◌, [], length, map, sym, subst, ap, ◌∙◌, arith, append_assoc, append-nil}
 use Rattle.std.proofs.lemmas.List.{length-map}
+use Rattle.slotted_lists.proofs.Lists.{length-zero as nothing}
 use Rattle.slotted_theory.specs.Term.{Term}
 use Rattle.slotted_nodes.specs.Form.{Form}
-use Rattle.slotted_patterns.proofs.PieceTexts.{nothing}
 use Rattle.slotted_terms.specs.Flat.{flat, flat_of}
 use Rattle.slotted_terms.specs.TermPattern.{term_in}
 use Rattle.slotted_terms.specs.Valid.{IsWhole}

@@ -1,6 +1,6 @@
 use Rattle.std.proofs.Common.{◌≡◌, ◌<◌, None, length, sym, ◌∙◌, refl, rules, subst, arith, inl, inr}
 use Rattle.std.specs.Prelude.{Contains, slice_get}
-use Rattle.slotted_theory.proofs.Lists.{contains_head}
+use Rattle.slotted_lists.proofs.Contained.{contains_head}
 use Rattle.slotted_model_analyses.specs.Analysis.{IsMerge}
 use Rattle.slotted_model_analyses.specs.DataPart.{TakesData}
 use Rattle.slotted_hashcons.specs.FiledRows.{IsFiled}

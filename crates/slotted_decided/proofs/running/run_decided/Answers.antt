@@ -3,6 +3,7 @@ use Rattle.std.proofs.Common.{◌≡◌, ◌⊎◌, inr, refl}
 use Rattle.std.proofs.lemmas.Bool.{false≢true}
 use Rattle.std.proofs.lemmas.Result.{IfErr-weaker, IfOk-weaker}
 use Rattle.slotted_graph.proofs.Insides.{given}
+use Rattle.slotted_graph.proofs.StatesLater.{later-extends}
 use Rattle.slotted_rules.specs.Applying.{AreModified, AreRefusedBy}
 use Rattle.slotted_rules.specs.Counting.{RefusesRule}
 use Rattle.slotted_rules.specs.WrittenLaws.{valid-later}
@@ -11,7 +12,7 @@ use Rattle.slotted_slots.specs.declared.error.Error.TheVariants.{Failed}
 use Rattle.slotted_deciding.specs.Steps.{CanRefuse}
 use Rattle.slotted_deciding.proofs.Refusals.{so-well}
 use Rattle.slotted_decided.specs.Turns.{HasRunDecided}
-use Rattle.slotted_decided.proofs.DecidedTurns.{later-extends, later-lowers, no-refusal_fails, run-begins, run-undecided, started-well}
+use Rattle.slotted_decided.proofs.DecidedTurns.{later-lowers, no-refusal_fails, run-begins, run-undecided, started-well}
 use Rattle.slotted_decided.proofs.running.run_decided.Goals as goal
 
 pub returns-then-not-branch-clause-run : goal.returns-then-not-branch-clause-run

@@ -1,12 +1,13 @@
 -- A turn, followed by a decision.
 use Rattle.std.proofs.Common.{◌⊎◌, ◌<◌, inr, subst}
 use Rattle.std.proofs.lemmas.Bool.{false≢true}
+use Rattle.slotted_lists.proofs.Booleans.{unless-true}
 use Rattle.slotted_classes.specs.Kept.{symmetry_entry}
 use Rattle.slotted_languages.proofs.HandedOn.{handed_err}
 use Rattle.slotted_graph.proofs.Extending.{extends-then}
 use Rattle.slotted_rules.specs.Applying.{AreModified, AreRefusedBy}
 use Rattle.slotted_rules.specs.Counting.{RefusesRule}
-use Rattle.slotted_rules.proofs.AppliedRules.{not-failed, not-failed-so, ok-well}
+use Rattle.slotted_rules.proofs.AppliedRules.{not-failed, ok-well}
 use Rattle.slotted_deciding.specs.Steps.{CanRefuse}
 use Rattle.slotted_deciding.proofs.Refusals.{so-well}
 use Rattle.slotted_decided.proofs.DecidedTurns.{decided-turn, later-lowers, listed-same, refused-decision, refused-rules, still-turn}
@@ -54,15 +55,15 @@ returns-clause-extends g c =
     let h = c.decide.new.graph in
     let well = ok-well _ k.failed c.apply_counted.result c.in_ok-counts.counts c.in_ok-counts.was c.apply_counted.ensures.fails.0 in
     let goes = so-well h.failed (λ bad. false≢true (c.in_ok-is_decided.ensures.fails.0 bad)) c.in_ok-is_decided.ensures.goes in
-    inr (extends-then c.args.graph.now k h (not-failed-so k.failed well c.apply_counted.ensures.extends) goes.extends)
+    inr (extends-then c.args.graph.now k h (unless-true k.failed well c.apply_counted.ensures.extends) goes.extends)
 
 pub returns-clause-lowers : goal.returns-clause-lowers
 returns-clause-lowers g c =
     let k = c.apply_counted.new.graph in
     let h = c.decide.new.graph in
     let well = ok-well _ k.failed c.apply_counted.result c.in_ok-counts.counts c.in_ok-counts.was c.apply_counted.ensures.fails.0 in
-    let extends = not-failed-so k.failed well c.apply_counted.ensures.extends in
-    later-lowers g.N.Analysis.codes g.N.Analysis.meaning g.met.N.Analysis.is_merge c.args.graph.now k h extends (not-failed-so k.failed well c.apply_counted.ensures.lowers) c.in_ok-is_decided.ensures.lowers
+    let extends = unless-true k.failed well c.apply_counted.ensures.extends in
+    later-lowers g.N.Analysis.codes g.N.Analysis.meaning g.met.N.Analysis.is_merge c.args.graph.now k h extends (unless-true k.failed well c.apply_counted.ensures.lowers) c.in_ok-is_decided.ensures.lowers
 
 pub returns-clause-nodes : goal.returns-clause-nodes
 returns-clause-nodes g c said = subst (λ n. c.args.limits.nodes < n) c.total_number_of_nodes-nodes.ensures (c.stop_of.ensures.nodes said)

@@ -2,14 +2,16 @@
 use Rattle.std.proofs.Common.{◌∷◌, ◌∙◌, [], length, length-append, ap, arith, inl, inr, refl, sym}
 use Rattle.std.specs.Prelude.{Some}
 use Rattle.std.proofs.lemmas.Bool.{false≢true}
+use Rattle.slotted_lists.proofs.Booleans.{unless-true}
 use Rattle.slotted_graph.proofs.Extending.{extends-itself, extends-then}
 use Rattle.slotted_graph.proofs.Saying.{lowers-itself, lowers-then}
+use Rattle.slotted_graph.proofs.StatesLater.{later-extends}
 use Rattle.slotted_rules.specs.Applying.{AreModified}
 use Rattle.slotted_rules.specs.WrittenLaws.{valid-later}
 use Rattle.slotted_rules.proofs.Modified.{modified-extends}
 use Rattle.slotted_deciding.proofs.Growing.{goes-itself}
 use Rattle.slotted_deciding.proofs.Refusals.{so-well}
-use Rattle.slotted_decided.proofs.DecidedTurns.{later-extends, later-lowers, never-undecided, no-turns, run-limited, run-stopped, stop-known, turn-more, unless-failed, well-extends}
+use Rattle.slotted_decided.proofs.DecidedTurns.{later-lowers, never-undecided, no-turns, run-limited, run-stopped, stop-known, turn-more, well-extends}
 use Rattle.slotted_decided.proofs.running.take_turns.Goals as goal
 
 pub loop-alloc-init : goal.loop-alloc-init
@@ -63,7 +65,7 @@ loop-alloc-preserved g c =
     record {
       well = more.0;
       extends = extends-then c.args.graph.now c.loop-alloc.graph h c.loop-alloc.invariant.extends more.1;
-      lowers = lowers-then g.N.Analysis.codes g.N.Analysis.meaning g.met.N.Analysis.is_merge c.args.graph.now c.loop-alloc.graph h c.loop-alloc.invariant.extends c.loop-alloc.invariant.lowers (unless-failed h.failed more.0 c.take_turn.ensures.lowers);
+      lowers = lowers-then g.N.Analysis.codes g.N.Analysis.meaning g.met.N.Analysis.is_merge c.args.graph.now c.loop-alloc.graph h c.loop-alloc.invariant.extends c.loop-alloc.invariant.lowers (unless-true h.failed more.0 c.take_turn.ensures.lowers);
       decided = e.decided (never-undecided t.stop c.in-None.is);
       within = omega (arith, c.loop-alloc-test.true, c.len.ensures, ap length c.in_ok-push.ensures.items, length-append c.loop-alloc.turns.items (t.counts ∷ []));
       turns = turn-more g.L.LanguageChildren.form g.C.Cond.answers c.args.rules.now (AreModified g.N.Analysis.codes g.N.Analysis.meaning g.N.Analysis.may_ask g.N.Analysis.modifies) c.args.graph.now

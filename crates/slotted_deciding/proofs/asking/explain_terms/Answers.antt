@@ -1,7 +1,8 @@
+use Rattle.slotted_lists.proofs.Results.{IfOk-with}
 use Rattle.slotted_proofs.specs.Equations.{to_applied}
 use Rattle.slotted_deciding.specs.Asking.{IsExplained, IsExplainedOf}
 use Rattle.slotted_deciding.specs.Steps.{LeadsTo}
-use Rattle.slotted_deciding.proofs.Asked.{explained-terms, ok-with, stands-later}
+use Rattle.slotted_deciding.proofs.Asked.{explained-terms, stands-later}
 use Rattle.slotted_deciding.proofs.Growing.{leads-goes, leads-then, on_ok_by}
 use Rattle.slotted_deciding.proofs.asking.explain_terms.Goals as goal
 
@@ -13,7 +14,7 @@ returns-clause-explained g c =
     let b = to_applied c.in_ok-both.both.right in
     let t = c.args.left.now in
     let u = c.args.right.now in
-    ok-with c.explain_both.result (LeadsTo g.N.Analysis.codes g.N.Analysis.meaning k h) (IsExplainedOf h.image a b) (IsExplained h.image t u)
+    IfOk-with c.explain_both.result (LeadsTo g.N.Analysis.codes g.N.Analysis.meaning k h) (IsExplainedOf h.image a b) (IsExplained h.image t u)
     (λ x goes is. explained-terms h a b t u (stands-later k h a t (leads-goes g.N.Analysis.codes g.N.Analysis.meaning k h goes) c.in_ok-both.ensures.left) (stands-later k h b u (leads-goes g.N.Analysis.codes g.N.Analysis.meaning k h goes) c.in_ok-both.ensures.right) x is)
     c.explain_both.ensures.goes c.explain_both.ensures.explained
 

@@ -1,7 +1,8 @@
 use Rattle.std.proofs.Common.{◌≡◌, ◌∙◌, ap, arith, length, subst, sym}
 use Rattle.std.specs.Prelude.{nat_eq, vec_len}
 use Rattle.slotted_operations.specs.Graph.{OnlyTakesSlots}
-use Rattle.slotted_deciding.proofs.Growing.{decided-takes, leads-itself, leads-then, takes-itself, takes-then}
+use Rattle.slotted_operations.proofs.CallerLemmas.{takes_twice}
+use Rattle.slotted_deciding.proofs.Growing.{decided-takes, leads-itself, leads-then, takes-itself}
 use Rattle.slotted_deciding.proofs.Twisting.{no-items}
 use Rattle.slotted_deciding.proofs.deciding.settle.Goals as goal
 
@@ -23,7 +24,7 @@ loop-preserved g c =
     let k = c.any_missing.new.graph in (
       leads-then g.N.Analysis.codes g.N.Analysis.meaning g.met.N.Analysis.is_merge c.args.graph.now c.any_missing.new.graph c.unite_all.new.graph there c.in_ok-left.ensures.goes,
       λ decided.
-          let takes = takes-then start c.loop.graph k (c.loop.invariant.1 decided) c.in_ok-missing.ensures.takes in
+          let takes = takes_twice start c.loop.graph k (c.loop.invariant.1 decided) c.in_ok-missing.ensures.takes in
           subst (OnlyTakesSlots start) (sym (c.in_ok-left.ensures.kept (decided-takes start k takes decided))) takes,
     )
 
@@ -39,10 +40,10 @@ pub loop-init : goal.loop-init
 loop-init g c = (leads-itself g.N.Analysis.codes g.N.Analysis.meaning g.met.N.Analysis.is_merge c.args.graph.now c.requires.graph, λ decided. takes-itself c.args.graph.now)
 
 pub returns-then-is_empty-clause-kept : goal.returns-then-is_empty-clause-kept
-returns-then-is_empty-clause-kept g c decided = takes-then c.args.graph.now c.loop.graph c.any_missing.new.graph (c.loop.invariant.1 decided) c.in_ok-missing.ensures.takes
+returns-then-is_empty-clause-kept g c decided = takes_twice c.args.graph.now c.loop.graph c.any_missing.new.graph (c.loop.invariant.1 decided) c.in_ok-missing.ensures.takes
 
 pub returns-then-left-eq0-clause-kept : goal.returns-then-left-eq0-clause-kept
-returns-then-left-eq0-clause-kept g c decided = takes-then c.args.graph.now c.loop.graph c.any_missing.new.graph (c.loop.invariant.1 decided) c.in_ok-missing.ensures.takes
+returns-then-left-eq0-clause-kept g c decided = takes_twice c.args.graph.now c.loop.graph c.any_missing.new.graph (c.loop.invariant.1 decided) c.in_ok-missing.ensures.takes
 
 pub returns-clause-kept : goal.returns-clause-kept
-returns-clause-kept g c decided = takes-then c.args.graph.now c.loop.graph c.any_missing-2.new.graph (c.loop.invariant.1 decided) c.in_ok-any_missing.ensures.takes
+returns-clause-kept g c decided = takes_twice c.args.graph.now c.loop.graph c.any_missing-2.new.graph (c.loop.invariant.1 decided) c.in_ok-any_missing.ensures.takes

@@ -1,4 +1,5 @@
-use Rattle.slotted_deciding.proofs.Growing.{leads-takes, leads-then, graph-takes, on_ok_by}
+use Rattle.slotted_graph.proofs.StatesLater.{graph-takes}
+use Rattle.slotted_deciding.proofs.Growing.{leads-takes, leads-then, on_ok_by}
 use Rattle.slotted_deciding.proofs.uniting.prove_variant.Goals as goal
 
 pub parts_of-requires : goal.parts_of-requires

@@ -1,6 +1,7 @@
 -- Each call is handed what the calls before it answered, in a graph that extends the ones before it.
 use Rattle.std.proofs.Common.{◌≡◌, false, inr}
-use Rattle.slotted_rules.proofs.AppliedRules.{not-failed-so, ok-well}
+use Rattle.slotted_lists.proofs.Booleans.{unless-true}
+use Rattle.slotted_rules.proofs.AppliedRules.{ok-well}
 use Rattle.slotted_rules.specs.WrittenLaws.{valid-later}
 use Rattle.slotted_egraphs.specs.Extension.{ExtendsTo}
 use Rattle.slotted_egraphs.specs.Nodes.{to_applied}
@@ -17,14 +18,14 @@ pub ast_size_extract-requires : goal.ast_size_extract-requires
 ast_size_extract-requires g c =
     let m = c.run_counted.new.graph in
     let well : m.failed ≡ false = ok-well _ m.failed c.run_counted.result c.in_ok-run_counted.field-0 c.in_ok-run_counted.was c.run_counted.ensures.fails.0 in
-    let grows : ExtendsTo c.add_expr.new.self m = not-failed-so m.failed well c.run_counted.ensures.extends in
+    let grows : ExtendsTo c.add_expr.new.self m = unless-true m.failed well c.run_counted.ensures.extends in
     inr (grows.valid (to_applied c.in_ok-id.id) c.in_ok-id.ensures.found.valid)
 
 pub explain_equivalence-requires-clause-left : goal.explain_equivalence-requires-clause-left
 explain_equivalence-requires-clause-left g c =
     let m = c.run_counted.new.graph in
     let well : m.failed ≡ false = ok-well _ m.failed c.run_counted.result c.in_ok-run_counted.field-0 c.in_ok-run_counted.was c.run_counted.ensures.fails.0 in
-    let grows : ExtendsTo c.add_expr.new.self m = not-failed-so m.failed well c.run_counted.ensures.extends in
+    let grows : ExtendsTo c.add_expr.new.self m = unless-true m.failed well c.run_counted.ensures.extends in
     let added : ExtendsTo c.args.graph.now c.add_expr.new.self = extends-added c.args.graph.now c.add_expr.new.self c.in_ok-id.ensures.extends c.in_ok-id.ensures.adds c.add_expr.ensures.more in
     let read : ExtendsTo m c.ast_size_extract.new.eg = extends-takes m c.ast_size_extract.new.eg c.ast_size_extract.ensures.takes in
     let all : ExtendsTo c.args.graph.now c.ast_size_extract.new.eg = extends-then c.args.graph.now m c.ast_size_extract.new.eg (extends-then c.args.graph.now c.add_expr.new.self m added grows) read in
@@ -40,6 +41,6 @@ returns g c =
       id = to_applied c.in_ok-id.id;
       looked_up = c.in_ok-id.ensures.id;
       run = m;
-      grows = not-failed-so m.failed well c.run_counted.ensures.extends;
+      grows = unless-true m.failed well c.run_counted.ensures.extends;
       least = c.in_ok-best.ensures.least;
     }

@@ -1,8 +1,9 @@
 use Rattle.std.proofs.Common.{◌<◌, ◌∙◌, length, ap, sym, arith, refl}
 use Rattle.std.proofs.lemmas.Bool.{false≢true}
+use Rattle.slotted_lists.proofs.Maps.{length-values}
 use Rattle.slotted_slots.specs.Maps.{values}
 use Rattle.slotted_model.specs.Applied.{Applied}
-use Rattle.slotted_classes.proofs.NameMaps.{length-values, below_next}
+use Rattle.slotted_classes.proofs.NameMaps.{below_next}
 use Rattle.slotted_hashcons.specs.FoundNodes.{StandsIn}
 use Rattle.slotted_hashcons.proofs.CoveredNodes.{covered-each, each-covered}
 use Rattle.slotted_hashcons.proofs.covered.is_covered.Goals as goal

@@ -4,6 +4,7 @@ use Rattle.slotted_slots.specs.Maps.{is_among, keys}
 use Rattle.slotted_languages.specs.NodeTerm.{free_names_of}
 use Rattle.slotted_languages.proofs.TakenNames.{avoided_taken, free_stands}
 use Rattle.std.proofs.lemmas.Result.{IfOk-weaker}
+use Rattle.slotted_lists.proofs.Maps.{with_values-itself}
 use Rattle.slotted_theory.specs.FiniteMaps.{with_values}
 use Rattle.slotted_theory.specs.Nameless.{DTerm}
 use Rattle.slotted_theory.specs.Shape.{free_names}
@@ -14,7 +15,7 @@ use Rattle.slotted_languages.proofs.Counting.{avoided_stands, runs_out_from}
 use Rattle.slotted_languages.proofs.FreeAndBound.{none_meets}
 use Rattle.slotted_languages.proofs.PutIn.{same_put}
 use Rattle.slotted_languages.proofs.Occurrences.{is_among-firsts, lacks_smaller}
-use Rattle.slotted_languages.proofs.Renamings.{among_index, has_values, moved_same, renamed_same}
+use Rattle.slotted_languages.proofs.Renamings.{among_index, has_values, renamed_same}
 use Rattle.slotted_languages.proofs.HandedOn.{handed_memory, handed_short, handed_slots, no_slots, not_large, slots_handed, small_of, takes_nothing}
 use Rattle.slotted_languages.proofs.renaming.refresh_binders.Goals as goal
 
@@ -25,7 +26,7 @@ pub returns-clause-same : goal.returns-clause-same
 returns-clause-same g c =
     let f = g.L.LanguageChildren.form c.args.node.now in
     let p : c.in_ok-numbered.free ≡ (shape f).1 = λ i. (c.in_ok-numbered.ensures.shape i).1 in
-    let e : c.in_ok-numbered.free ≡ with_values (λ x. x) (shape f).1 = p ∙ moved_same (shape f).1 in
+    let e : c.in_ok-numbered.free ≡ with_values (λ x. x) (shape f).1 = p ∙ with_values-itself (shape f).1 in
     IfOk-weaker c.rename.result _ _ (λ r h. renamed_same c.args.table.now c.rename.new.table f c.add_names.new.set (g.L.LanguageChildren.form r) (h (λ x. x) e)) c.rename.ensures.renamed
 
 pub returns-clause-taken : goal.returns-clause-taken
@@ -44,7 +45,7 @@ pub returns-clause-fresh : goal.returns-clause-fresh
 returns-clause-fresh g c =
     let f = g.L.LanguageChildren.form c.args.node.now in
     let p : c.in_ok-numbered.free ≡ (shape f).1 = λ i. (c.in_ok-numbered.ensures.shape i).1 in
-    let e : c.in_ok-numbered.free ≡ with_values (λ x. x) (shape f).1 = p ∙ moved_same (shape f).1 in
+    let e : c.in_ok-numbered.free ≡ with_values (λ x. x) (shape f).1 = p ∙ with_values-itself (shape f).1 in
     IfOk-weaker c.rename.result _ _
     (λ r h j lt b. lacks_smaller _ _ (c.in_ok-add_names.ensures.added _) ((h (λ x. x) e).bound j lt b)) c.rename.ensures.renamed
 
@@ -52,7 +53,7 @@ pub returns-clause-unused : goal.returns-clause-unused
 returns-clause-unused g c =
     let f = g.L.LanguageChildren.form c.args.node.now in
     let p : c.in_ok-numbered.free ≡ (shape f).1 = λ i. (c.in_ok-numbered.ensures.shape i).1 in
-    let e : c.in_ok-numbered.free ≡ with_values (λ x. x) (shape f).1 = p ∙ moved_same (shape f).1 in
+    let e : c.in_ok-numbered.free ≡ with_values (λ x. x) (shape f).1 = p ∙ with_values-itself (shape f).1 in
     IfOk-weaker c.rename.result _ _
     (λ r h j lt b. (h (λ x. x) e).unused j lt b (c.in_ok-add_names.ensures.added _ (among_index f.names j lt))) c.rename.ensures.renamed
 
@@ -60,14 +61,14 @@ pub returns-clause-differ : goal.returns-clause-differ
 returns-clause-differ g c =
     let f = g.L.LanguageChildren.form c.args.node.now in
     let p : c.in_ok-numbered.free ≡ (shape f).1 = λ i. (c.in_ok-numbered.ensures.shape i).1 in
-    let e : c.in_ok-numbered.free ≡ with_values (λ x. x) (shape f).1 = p ∙ moved_same (shape f).1 in
+    let e : c.in_ok-numbered.free ≡ with_values (λ x. x) (shape f).1 = p ∙ with_values-itself (shape f).1 in
     IfOk-weaker c.rename.result _ _ (λ r h j k lt lk b q. (h (λ x. x) e).differ j k lt lk b q) c.rename.ensures.renamed
 
 pub returns-clause-apart : goal.returns-clause-apart
 returns-clause-apart g c =
     let f = g.L.LanguageChildren.form c.args.node.now in
     let p : c.in_ok-numbered.free ≡ (shape f).1 = λ i. (c.in_ok-numbered.ensures.shape i).1 in
-    let e : c.in_ok-numbered.free ≡ with_values (λ x. x) (shape f).1 = p ∙ moved_same (shape f).1 in
+    let e : c.in_ok-numbered.free ≡ with_values (λ x. x) (shape f).1 = p ∙ with_values-itself (shape f).1 in
     IfOk-weaker c.rename.result _ _
     (λ r h j k lt lk b u q. (h (λ x. x) e).apart j k lt lk b u (c.in_ok-add_names.ensures.added _ (among_index f.names j lt)) (c.in_ok-add_names.ensures.added _ (among_index f.names k lk)) q) c.rename.ensures.renamed
 
@@ -77,7 +78,7 @@ returns-clause-known g c =
     let fits = g.met.L.LanguageChildren.fits in
     let f = form c.args.node.now in
     let p : c.in_ok-numbered.free ≡ (shape f).1 = λ i. (c.in_ok-numbered.ensures.shape i).1 in
-    let e : c.in_ok-numbered.free ≡ with_values (λ x. x) (shape f).1 = p ∙ moved_same (shape f).1 in
+    let e : c.in_ok-numbered.free ≡ with_values (λ x. x) (shape f).1 = p ∙ with_values-itself (shape f).1 in
     IfOk-weaker c.rename.result _ _
     (λ r h. same_put c.args.table.now c.rename.new.table f c.add_names.new.set (form r) (fits c.args.node.now) (fits r) (h (λ x. x) e))
     c.rename.ensures.renamed
@@ -89,7 +90,7 @@ returns-clause-checked g c =
     let f = form c.args.node.now in
     let avoid = c.add_names.new.set in
     let p : c.in_ok-numbered.free ≡ (shape f).1 = λ i. (c.in_ok-numbered.ensures.shape i).1 in
-    let e : c.in_ok-numbered.free ≡ with_values (λ x. x) (shape f).1 = p ∙ moved_same (shape f).1 in
+    let e : c.in_ok-numbered.free ≡ with_values (λ x. x) (shape f).1 = p ∙ with_values-itself (shape f).1 in
     IfOk-weaker c.rename.result _ _
     (λ r h.
     let d = h (λ x. x) e in

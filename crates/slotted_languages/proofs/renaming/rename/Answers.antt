@@ -1,10 +1,11 @@
 use Rattle.std.proofs.Common.{◌≡◌, ◌<◌, ◌+◌, ◌++◌, ◌∙◌, length, sym, ap, arith, refl}
 use Rattle.std.specs.Prelude.{true}
 use Rattle.std.proofs.lemmas.Bool.{false≢true}
+use Rattle.slotted_lists.proofs.Maps.{is_among-left, is_among-right}
 use Rattle.slotted_slots.specs.Maps.{is_among, values}
 use Rattle.slotted_slots.proofs.SlotsTaken.{at_most_more, at_most_none}
 use Rattle.slotted_slots.proofs.Taken.{takes_none}
-use Rattle.slotted_languages.proofs.Counting.{among_left, among_right, binders_among, binders_below, number_named, place_runs_out, place_takes, runs_out_beside, takes_beside, values_entered}
+use Rattle.slotted_languages.proofs.Counting.{binders_among, binders_below, number_named, place_runs_out, place_takes, runs_out_beside, takes_beside, values_entered}
 use Rattle.slotted_languages.specs.Fresh.{IsInUse, RunsOut, at_hand}
 use Rattle.slotted_languages.specs.Renaming.{HasName}
 use Rattle.slotted_languages.proofs.TakenNames.{all_taken, entered_stands, entered_takes, renaming_length}
@@ -44,7 +45,7 @@ loop-i-preserved g c =
       count = place_takes c.args.table.now c.loop-i.table c.new_name.new.table f (c.args.avoid.now ++ f.names) c.loop-i.i c.loop-i.invariant.count
           (λ clear. c.new_name.ensures.spared (number_named c.args.table.now c.loop-i.table f (form c.loop-i.numbered) c.args.avoid.now c.args.free.now c.loop-i.names c.loop-i.i c.slot-number.result (g.met.L.LanguageChildren.fits c.args.node.now) lt c.requires.free c.loop-i.invariant.renamed c.slot-number.ensures clear))
           (takes_beside 1 c.loop-i.table c.new_name.new.table c.args.avoid.now (c.args.avoid.now ++ f.names) c.loop-i.names f c.loop-i.invariant.valued
-          (among_left c.args.avoid.now f.names) (among_right c.args.avoid.now f.names) c.new_name.ensures.count);
+          (is_among-left c.args.avoid.now f.names) (is_among-right c.args.avoid.now f.names) c.new_name.ensures.count);
       valued = values_entered c.loop-i.table c.new_name.new.table f c.args.avoid.now c.args.free.now c.loop-i.names c.new_name.new.names c.loop-i.i c.slot-number.result c.slot-name.result c.in_ok-new.new
           c.in_ok-new.ensures.more there c.requires.avoided c.in_ok-new.ensures.ok c.loop-i.invariant.valued;
       kept = c.new_name.ensures.kept ∙ c.loop-i.invariant.kept;
@@ -77,7 +78,7 @@ returns-in_err-new-clause-count g c =
     at_most_more (binders_below f (i + 1)) (binders_below f (length f.names)) ys c.args.table.now c.new_name.new.table (binders_among f (i + 1) (length f.names) (omega (arith, lt)))
     (place_takes c.args.table.now c.loop-i.table c.new_name.new.table f ys i c.loop-i.invariant.count (λ clear. c.new_name.ensures.spared (number_named c.args.table.now c.loop-i.table f (form c.loop-i.numbered) c.args.avoid.now c.args.free.now c.loop-i.names i c.slot-number.result (g.met.L.LanguageChildren.fits c.args.node.now) lt c.requires.free c.loop-i.invariant.renamed c.slot-number.ensures clear))
     (takes_beside 1 c.loop-i.table c.new_name.new.table c.args.avoid.now ys c.loop-i.names f c.loop-i.invariant.valued
-    (among_left c.args.avoid.now f.names) (among_right c.args.avoid.now f.names) c.new_name.ensures.count))
+    (is_among-left c.args.avoid.now f.names) (is_among-right c.args.avoid.now f.names) c.new_name.ensures.count))
 
 pub returns-in_err-new-clause-full : goal.returns-in_err-new-clause-full
 returns-in_err-new-clause-full g c is =
@@ -91,7 +92,7 @@ returns-in_err-new-clause-full g c is =
     let needed : ¬ (HasName c.loop-i.names c.args.free.now c.slot-number.result) = c.new_name.ensures.needed refused in
     place_runs_out c.args.table.now c.loop-i.table c.new_name.new.table f ys i (length f.names) lt c.loop-i.invariant.count (λ clear. needed (number_named c.args.table.now c.loop-i.table f (form c.loop-i.numbered) c.args.avoid.now c.args.free.now c.loop-i.names i c.slot-number.result (g.met.L.LanguageChildren.fits c.args.node.now) lt c.requires.free c.loop-i.invariant.renamed c.slot-number.ensures clear))
     (runs_out_beside 1 c.loop-i.table c.new_name.new.table c.args.avoid.now ys c.loop-i.names f c.new_name.ensures.more c.loop-i.invariant.valued
-    (among_left c.args.avoid.now f.names) (among_right c.args.avoid.now f.names) out)
+    (is_among-left c.args.avoid.now f.names) (is_among-right c.args.avoid.now f.names) out)
 
 pub slot-name-requires : goal.slot-name-requires
 slot-name-requires g c = omega (arith, c.loop-i-test.true, c.slot_count-i-end.ensures)

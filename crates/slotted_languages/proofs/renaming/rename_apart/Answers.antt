@@ -2,8 +2,10 @@ use Rattle.std.proofs.Common.{◌++◌, ◌∙◌, ap, sym, inl, inr}
 use Rattle.slotted_slots.specs.Maps.{keys, values}
 use Rattle.slotted_slots.proofs.SlotsTaken.{at_most_beside}
 use Rattle.slotted_languages.specs.Children.{binders}
-use Rattle.slotted_languages.proofs.Counting.{composed_within, keys-with_values, runs_out_from}
+use Rattle.slotted_languages.proofs.Counting.{composed_within, runs_out_from}
 use Rattle.std.proofs.lemmas.Result.{IfOk-weaker}
+use Rattle.slotted_lists.proofs.Maps.{keys-with_values}
+use Rattle.slotted_lists.proofs.Results.{IfOk-both}
 use Rattle.slotted_theory.specs.FiniteMaps.{filled}
 use Rattle.slotted_languages.specs.Shape.{shape}
 use Rattle.slotted_languages.proofs.FreeAndBound.{free_is_value, none_meets}
@@ -11,7 +13,7 @@ use Rattle.slotted_languages.proofs.Occurrences.{lacks_smaller}
 use Rattle.slotted_languages.proofs.PutIn.{renamed_put}
 use Rattle.slotted_languages.proofs.Renamings.{has_values, composed_shape}
 use Rattle.slotted_languages.proofs.Shapes.{values-shape}
-use Rattle.slotted_languages.proofs.TakenNames.{avoided_taken, both_ok, value_free, value_stands}
+use Rattle.slotted_languages.proofs.TakenNames.{avoided_taken, value_free, value_stands}
 use Rattle.slotted_languages.proofs.HandedOn.{handed_memory, handed_short, handed_slots, no_slots, not_large, slots_handed, small_of, takes_nothing}
 use Rattle.slotted_languages.proofs.renaming.rename_apart.Goals as goal
 
@@ -23,7 +25,7 @@ returns-clause-taken g c =
     let form = g.L.LanguageChildren.form in
     let f = form c.args.node.now in
     let e = c.in_ok-names.ensures.ok ∙ composed_shape f c.args.m.now c.in_ok-numbered.free c.requires (λ i. (c.in_ok-numbered.ensures.shape i).1) in
-    both_ok c.rename.result _ _ _
+    IfOk-both c.rename.result _ _ _
     (λ r h k. avoided_taken c.args.table.now c.rename.new.table c.in_ok-avoid.avoid f.names (form r).names
     (λ z p. inl (value_stands f (form r) (filled c.args.m.now) (shape f).1 c.in_ok-names.names z (g.met.L.LanguageChildren.fits r) (values-shape f) e (h (filled c.args.m.now) e).renamed (sym (c.in_ok-avoid.ensures.members z) ∙ p))) k)
     c.rename.ensures.renamed c.rename.ensures.taken

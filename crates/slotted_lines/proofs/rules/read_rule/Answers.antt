@@ -1,7 +1,8 @@
 -- The texts are read one after the other.
-use Rattle.std.proofs.Common.{◌≡◌, ◌∙◌, Result, Ok, Err, IfOk, ap, sym, subst}
+use Rattle.std.proofs.Common.{◌≡◌, ◌∙◌, Ok, ap, sym, subst}
 use Rattle.std.specs.Prelude.{[], None, false}
 use Rattle.std.proofs.lemmas.Result.{IfOk-weaker, IfErr-weaker}
+use Rattle.slotted_lists.proofs.Results.{IfOk-three}
 use Rattle.slotted_languages.proofs.HandedOn.{handed_err}
 use Rattle.slotted_patterns.specs.Known.{HasKnownNames}
 use Rattle.slotted_patterns.specs.View.{tree_of}
@@ -12,10 +13,6 @@ use Rattle.slotted_lines.specs.AnsweredIn.{IsRuleRead, IsRuleRefused, texts_refu
 use Rattle.slotted_graph.proofs.CallerLemmas.{reads_twice}
 use Rattle.slotted_lines.proofs.ReadTexts.{unfailed}
 use Rattle.slotted_lines.proofs.rules.read_rule.Goals as goal
-
-three_ok : {A E : Type 0} (r : Result A E) (P Q R S : A → Type 0) → ((x : A) → P x → Q x → R x → S x) → IfOk r P → IfOk r Q → IfOk r R → IfOk r S
-three_ok (Ok x) P Q R S h p q s = h x p q s
-three_ok (Err e) P Q R S h p q s = tt
 
 pub returns-in_err-made-clause-err : goal.returns-in_err-made-clause-err
 returns-in_err-made-clause-err g c =
@@ -61,7 +58,7 @@ returns-clause-searched g c =
     let p = c.in_ok-searched.searched in
     let q = c.in_ok-made.made in
     let left : HasKnownNames v.table (tree_of form p) = pattern-later u.table v.table c.in_ok-made.ensures.reads.more (tree_of form p) c.in_ok-searched.ensures.known in
-    three_ok c.from_patterns.result (λ r. IsRule r c.args.name.now p q (record {})) (λ r. has_substitution (tree_of form p) ≡ false) (λ r. first_lacking (tree_of form q) (tree_of form p) ≡ None) (CanBeSearched form v.table)
+    IfOk-three c.from_patterns.result (λ r. IsRule r c.args.name.now p q (record {})) (λ r. has_substitution (tree_of form p) ≡ false) (λ r. first_lacking (tree_of form q) (tree_of form p) ≡ None) (CanBeSearched form v.table)
     (λ r is none all. record {
       left_known = subst (λ x. HasKnownNames v.table (tree_of form x)) (sym is.left_is) left;
       right_known = subst (λ x. HasKnownNames v.table (tree_of form x)) (sym is.right_is) c.in_ok-made.ensures.known;

@@ -1,5 +1,6 @@
 use Rattle.std.proofs.Common.{◌≡◌, ◌≤◌, ◌+◌, ◌∙◌, ℕ, List, arith, ap, sym, subst, rules}
 use Rattle.std.specs.List.{zip}
+use Rattle.slotted_lists.proofs.Maps.{zip-keys_values}
 use Rattle.slotted_slots.specs.Maps.{keys, values}
 use Rattle.slotted_slots.specs.Table.{Table}
 use Rattle.slotted_model.specs.Applied.{Applied}
@@ -10,7 +11,6 @@ use Rattle.slotted_proofs.specs.Equations.{to_applied}
 use Rattle.slotted_classes.specs.Finding.{IsFindable}
 use Rattle.slotted_classes.specs.Kept.{Kept, nodes_of, names_at, rows_from}
 use Rattle.slotted_classes.specs.Names.{between}
-use Rattle.slotted_classes.proofs.ChildIds.{zip-keys_values}
 use Rattle.slotted_classes.proofs.KeptLists.{length-nodes_of}
 use Rattle.slotted_classes.proofs.OwnIds.{has-row, own-map}
 use Rattle.slotted_lookup.specs.Filling.{FillsId, MakesAtMost, RunsOut, filled_id, lacked, missing, named, with_fresh}

@@ -2,9 +2,9 @@ use Rattle.std.proofs.Common.{◌≡◌, ◌<◌, ◌≤◌, ◌+◌, ◌∙◌,
 use Rattle.std.specs.Prelude.{slice_set, unwrap_or}
 use Rattle.std.proofs.lemmas.List.{drop_more, take_more_set, drop-set-lt}
 use Rattle.std.proofs.lemmas.Option.{get_or_from_slice_get}
+use Rattle.slotted_lists.proofs.Maps.{length-values, length-keys}
 use Rattle.slotted_slots.specs.Maps.{keys, values, value_of, keys-with_value_at, values-with_value_at}
 use Rattle.slotted_slots.specs.Table.{Table, fresh_slot}
-use Rattle.slotted_classes.proofs.NameMaps.{length-values, length-keys}
 use Rattle.slotted_lookup.specs.Filling.{lack, lacked, named}
 use Rattle.slotted_lookup.proofs.filling.name_values.Goals as goal
 

@@ -1,9 +1,9 @@
 use Rattle.std.proofs.Common.{◌≡◌, ◌<◌, ◌≤◌, ap, sym, ◌∙◌, arith, length, map}
 use Rattle.std.proofs.lemmas.List.{take_all}
+use Rattle.slotted_lists.proofs.Maps.{length-values, length-keys}
 use Rattle.slotted_slots.specs.Maps.{keys, values, keys-with_value_at}
 use Rattle.slotted_model.specs.Applied.{Applied}
 use Rattle.slotted_classes.specs.Kept.{find_at}
-use Rattle.slotted_classes.proofs.NameMaps.{length-values, length-keys}
 use Rattle.slotted_match_machine.specs.Answers.{occurrence_in}
 use Rattle.slotted_matching.specs.Naming.{slot_in}
 use Rattle.slotted_matching.proofs.AnsweredIds.{count-of, id-read, name-put}

@@ -1,6 +1,6 @@
 use Rattle.std.proofs.Common.{ℕ, get_or}
 use Rattle.std.proofs.lemmas.List.{get_or_default}
-use Rattle.slotted_theory.proofs.Lists.{Contains-map}
+use Rattle.slotted_lists.proofs.Contained.{Contains-map}
 use Rattle.slotted_matching.proofs.answers.paired_names.Goals as goal
 
 pub slot_with-requires : goal.slot_with-requires

@@ -1,5 +1,6 @@
 use Rattle.std.proofs.Common.{◌≡◌, ◌<◌, ◌∷◌, [], ap, sym, ◌∙◌, subst, arith, length, map, get_or, List}
 use Rattle.std.proofs.lemmas.List.{length-map, get_or-map, map-append}
+use Rattle.slotted_lists.proofs.Contained.{Contains-get_or}
 use Rattle.slotted_proofs.specs.Equations.{to_applied}
 use Rattle.slotted_classes.specs.StateOf.{state_of}
 use Rattle.slotted_match_machine.specs.declared.answer.Occurrence.{Occurrence as OccurrenceRead}
@@ -7,23 +8,23 @@ use Rattle.slotted_match_machine.specs.Machine.{no_occurrence}
 use Rattle.slotted_match_machine.specs.Answers.{occurrence_in}
 use Rattle.slotted_match_machine.specs.Readings.{IsWholeId, read_id}
 use Rattle.slotted_matching.specs.Naming.{slot_in}
-use Rattle.slotted_matching.proofs.AnsweredIds.{contains-at, ids-step}
+use Rattle.slotted_matching.proofs.AnsweredIds.{ids-step}
 use Rattle.slotted_matching.proofs.answers.push_ids.Goals as goal
 
 pub bounds-values-number : goal.bounds-values-number
 bounds-values-number g c =
-    let w = c.requires.whole (get_or c.args.order.now c.loop-number.number-index 0) (contains-at c.args.order.now c.loop-number.number-index 0 c.loop-number-test.true) in
+    let w = c.requires.whole (get_or c.args.order.now c.loop-number.number-index 0) (Contains-get_or c.args.order.now c.loop-number.number-index 0 c.loop-number-test.true) in
     omega (arith, w.0, length-map c.args.answer.now.values.items occurrence_in, ap length c.as_slice-values.ensures.value)
 
 pub offset_bounds-values-number : goal.offset_bounds-values-number
 offset_bounds-values-number g c =
-    let w = c.requires.whole (get_or c.args.order.now c.loop-number.number-index 0) (contains-at c.args.order.now c.loop-number.number-index 0 c.loop-number-test.true) in
+    let w = c.requires.whole (get_or c.args.order.now c.loop-number.number-index 0) (Contains-get_or c.args.order.now c.loop-number.number-index 0 c.loop-number-test.true) in
     omega (arith, w.0, length-map c.args.answer.now.values.items occurrence_in, ap length c.as_slice-values.ensures.value, c.as_slice-values.type_inv)
 
 pub named_id-requires-clause-whole : goal.named_id-requires-clause-whole
 named_id-requires-clause-whole g c =
     let n = get_or c.args.order.now c.loop-number.number-index 0 in
-    let w = c.requires.whole n (contains-at c.args.order.now c.loop-number.number-index 0 c.loop-number-test.true) in
+    let w = c.requires.whole n (Contains-get_or c.args.order.now c.loop-number.number-index 0 c.loop-number-test.true) in
     let vs = c.args.answer.now.values.items in
     let l : n < length vs = omega (arith, w.0, length-map vs occurrence_in) in
     let x = c.index-values-number.result in
@@ -33,7 +34,7 @@ named_id-requires-clause-whole g c =
 pub loop-number-preserved : goal.loop-number-preserved
 loop-number-preserved g c =
     let n = get_or c.args.order.now c.loop-number.number-index 0 in
-    let w = c.requires.whole n (contains-at c.args.order.now c.loop-number.number-index 0 c.loop-number-test.true) in
+    let w = c.requires.whole n (Contains-get_or c.args.order.now c.loop-number.number-index 0 c.loop-number-test.true) in
     let vs = c.args.answer.now.values.items in
     let l : n < length vs = omega (arith, w.0, length-map vs occurrence_in) in
     let x = c.index-values-number.result in

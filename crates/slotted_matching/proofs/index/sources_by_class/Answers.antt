@@ -1,7 +1,8 @@
 use Rattle.std.proofs.Common.{◌∙◌, ◌+◌, ap, sym, subst}
 use Rattle.std.specs.Prelude.{is_some, map}
+use Rattle.slotted_lists.proofs.Options.{is_some-option_map}
 use Rattle.slotted_matching.specs.Indexed.{AreSourcesBelow}
-use Rattle.slotted_matching.proofs.SourceRows.{is_some-map, source-added, source-passed}
+use Rattle.slotted_matching.proofs.SourceRows.{source-added, source-passed}
 use Rattle.slotted_matching.proofs.index.sources_by_class.Goals.{then-is_some+in_ok-add_source, else-is_some}
 use Rattle.slotted_matching.proofs.index.sources_by_class.Goals as goal
 
@@ -12,7 +13,7 @@ loop-source-preserved g c =
     let r = c.args.nodes.now in
     let i = c.loop-source.source in
     let before = map (λ b. b.items) c.loop-source.sources.items in
-    let filed = ap is_some (sym c.node.ensures) ∙ (is_some-map (λ p. (form p.0.now, p.1.now)) c.node.result ∙ sym c.is_some.ensures) in
+    let filed = ap is_some (sym c.node.ensures) ∙ (is_some-option_map (λ p. (form p.0.now, p.1.now)) c.node.result ∙ sym c.is_some.ensures) in
     elim c.if-is_some.branch [
       | then-is_some+in_ok-add_source w ↦
           source-added k r i before (map (λ b. b.items) c.if-is_some.sources.items) w.find_class.result c.loop-source.invariant w.find_class.ensures.class w.find_class.ensures.within

@@ -1,5 +1,5 @@
 use Rattle.std.proofs.Common.{◌∙◌, refl, sym}
-use Rattle.slotted_model.proofs.Data.Maps.{values-with_values}
+use Rattle.slotted_lists.proofs.Maps.{values-with_values}
 use Rattle.slotted_matching.specs.KeyRows.{slot_number}
 use Rattle.slotted_matching.proofs.rows.index_child.Goals as goal
 

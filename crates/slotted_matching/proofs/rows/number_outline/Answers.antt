@@ -1,9 +1,9 @@
 use Rattle.std.proofs.Common.{◌≡◌, ◌∙◌, ℕ, length, map, ap, sym, subst, arith}
+use Rattle.slotted_lists.proofs.Members.{In, Contains-In}
 use Rattle.slotted_slots.specs.Table.{slot_limit}
 use Rattle.slotted_nodes.specs.Form.{Form, IsSmall}
 use Rattle.slotted_languages.specs.Outline.{outlined_form}
 use Rattle.slotted_languages.specs.Shape.{Fits}
-use Rattle.slotted_model.proofs.Data.Members.{In, Contains-In}
 use Rattle.slotted_matching.specs.KeyRows.{AreCovered, blanked_form, slot_number, unmarked}
 use Rattle.slotted_matching.specs.Skeletons.{HasFewPlaces, StandsAt}
 use Rattle.slotted_matching.proofs.Blanking.{blanked-outline}

@@ -1,6 +1,6 @@
-use Rattle.slotted_theory.proofs.Lists.{Contains-nil}
 use Rattle.std.proofs.Common.{◌+◌, ap, subst}
 use Rattle.std.specs.Prelude.{Contains}
+use Rattle.slotted_lists.proofs.Contained.{Contains-nil}
 use Rattle.slotted_model.proofs.Rebuilding.Counting.{size-counts}
 use Rattle.slotted_model_analyses.specs.DataPart.{heights_from}
 use Rattle.slotted_model_analyses.proofs.Following.{data-followed, followed, acted-followed}

@@ -5,7 +5,8 @@ use Rattle.slotted_model.proofs.Finds.NormalIds.{Contains-ascending, Contains-of
 use Rattle.slotted_slots.specs.Maps.{values}
 use Rattle.slotted_classes.specs.Kept.{names_at}
 use Rattle.slotted_classes.proofs.NameMaps.{all_differ-iff}
-use Rattle.slotted_operations.proofs.Ids.FullIds.{length-classes, length-rows, row-values}
+use Rattle.slotted_classes.proofs.KeptLists.{length-nodes_of}
+use Rattle.slotted_operations.proofs.Ids.FullIds.{length-rows, row-values}
 use Rattle.slotted_operations.proofs.Graphs.Finds.{good-finds}
 use Rattle.slotted_operations.proofs.adding.can_be_found.Goals as goal
 
@@ -33,7 +34,7 @@ returns-then-has_found_names g c =
     let at : Contains (values c.names_of.result.now) ≡ Contains (values (names_at c.args.store.now i)) = ap (λ m. Contains (values m)) c.names_of.ensures in
     let d = all_differ-iff c.args.a.now.m in (
       λ y. record {
-        in_range = omega (arith, l, length-classes c.args.store.now);
+        in_range = omega (arith, l, length-nodes_of c.args.store.now);
         ascending = c.keys_are_values.ensures.ascending;
         injective = d.0 (sym c.is_bijection.ensures ∙ y);
         has_slots = c.has_found_names.ensures.0 c.if-has_found_names.true;

@@ -1,8 +1,8 @@
 use Rattle.std.proofs.Common.{◌∙◌, ◌+◌, ℕ, List, ap, length, subst, arith}
+use Rattle.slotted_lists.proofs.Maps.{length-keys}
 use Rattle.slotted_slots.specs.Maps.{keys}
 use Rattle.slotted_slots.specs.Table.{Table}
 use Rattle.slotted_classes.specs.Names.{fresh_slots}
-use Rattle.slotted_classes.proofs.NameMaps.{length-keys}
 use Rattle.slotted_operations.specs.Graph.{MakesAtMost, RunsOut}
 use Rattle.slotted_operations.proofs.Additions.Tables.{makes-none}
 use Rattle.slotted_operations.proofs.adding.fresh_names.Goals as goal

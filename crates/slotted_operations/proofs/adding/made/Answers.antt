@@ -1,10 +1,10 @@
 use Rattle.std.proofs.Common.{◌≡◌, ◌≤◌, ap, length, refl, sym, rules, arith, inl, inr}
 use Rattle.std.proofs.lemmas.Result.{IfOk-weaker}
+use Rattle.slotted_lists.proofs.Maps.{length-keys}
+use Rattle.slotted_languages.proofs.HandedOn.{memory_only}
 use Rattle.slotted_classes.specs.Names.{between}
-use Rattle.slotted_classes.proofs.NameMaps.{length-keys}
 use Rattle.slotted_proofs.specs.Equations.{to_applied}
 use Rattle.slotted_operations.specs.Good.{Makes}
-use Rattle.slotted_operations.proofs.Ids.NodesOfIds.{memory-no_slots}
 use Rattle.slotted_operations.proofs.LookUps.Rows.{row-names}
 use Rattle.slotted_operations.proofs.Additions.NodeAddition.{absent-unknown, fresh_injective, row_makes, class_makes, shape-places}
 use Rattle.slotted_operations.proofs.Additions.Tables.{makes-more, makes-none, runs_out-more}
@@ -88,12 +88,12 @@ returns-in_err-make_class-clause-full g c e =
     inr (omega (arith, within, c.in_err-make_class.ensures.full (search rules), ap length c.in_ok-slots.ensures.keys, length-keys c.in_ok-slots.slots, length-keys names))
 
 pub returns-in-Some-clause-full : goal.returns-in-Some-clause-full
-returns-in-Some-clause-full g c = memory-no_slots c.class_of_row.result c.class_of_row.ensures.err
+returns-in-Some-clause-full g c = memory_only c.class_of_row.result c.class_of_row.ensures.err
 
 -- the node has no class, or it is too large
 
 pub returns-in-Some-clause-unknown : goal.returns-in-Some-clause-unknown
-returns-in-Some-clause-unknown g c = memory-no_slots c.class_of_row.result c.class_of_row.ensures.err
+returns-in-Some-clause-unknown g c = memory_only c.class_of_row.result c.class_of_row.ensures.err
 
 pub returns-in_err-shape-clause-unknown : goal.returns-in_err-shape-clause-unknown
 returns-in_err-shape-clause-unknown g c e = inr (c.in_err-shape.ensures.full.0 (search rules))

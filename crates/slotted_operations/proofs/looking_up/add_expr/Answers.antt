@@ -1,8 +1,8 @@
 -- Each node is added over what the terms under it were looked up as.
 use Rattle.std.proofs.Common.{◌++◌, ◌∷◌, [], map, sym, subst, ap, ◌∙◌, arith, rules}
 use Rattle.std.proofs.lemmas.List.{length-map, map-append}
+use Rattle.slotted_lists.proofs.Lists.{length-zero as nothing}
 use Rattle.slotted_patterns.proofs.PatternCopies.{mapped_last}
-use Rattle.slotted_patterns.proofs.PieceTexts.{nothing}
 use Rattle.slotted_proofs.specs.Equations.{to_applied}
 use Rattle.slotted_terms.specs.Flat.{flat_of}
 use Rattle.slotted_terms.proofs.FlatTrees.{flat_last}

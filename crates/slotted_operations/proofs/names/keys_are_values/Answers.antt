@@ -1,7 +1,7 @@
 use Rattle.std.proofs.Common.{◌≡◌, ◌∙◌, ℕ, List, ◌∷◌, sym, refl, subst, inl, inr}
 use Rattle.std.specs.Prelude.{Contains}
 use Rattle.std.proofs.lemmas.Bool.{false≢true}
-use Rattle.slotted_theory.proofs.Lists.{contains_cases, contains_head, contains_tail, Contains-nil}
+use Rattle.slotted_lists.proofs.Contained.{contains_cases, contains_head, contains_tail, Contains-nil}
 use Rattle.slotted_slots.specs.Maps.{keys, values}
 use Rattle.slotted_proofs.proofs.Bridges.{ascends}
 use Rattle.slotted_operations.proofs.names.keys_are_values.Goals as goal

@@ -1,8 +1,9 @@
 use Rattle.std.proofs.Common.{◌≡◌, ◌<◌, ◌≤◌, ◌+◌, ◌^◌, ◌∙◌, arith, length, ap}
 use Rattle.std.specs.Prelude.{slice_set}
+use Rattle.slotted_lists.proofs.Maps.{length-values}
 use Rattle.slotted_slots.specs.Maps.{keys, values, keys-with_value_at, values-with_value_at}
 use Rattle.slotted_slots.specs.Table.{Table, fresh_slot}
-use Rattle.slotted_classes.proofs.NameMaps.{fresh_slots-step, length-values}
+use Rattle.slotted_classes.proofs.NameMaps.{fresh_slots-step}
 use Rattle.slotted_operations.proofs.names.renew_values.Goals as goal
 
 pub loop-i-preserved : goal.loop-i-preserved

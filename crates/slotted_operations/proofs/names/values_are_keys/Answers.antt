@@ -2,9 +2,10 @@ use Rattle.std.proofs.Common.{◌∙◌, arith, sym, subst, refl}
 use Rattle.std.specs.Prelude.{IsSome}
 use Rattle.std.proofs.lemmas.Bool.{false≢true}
 use Rattle.std.proofs.lemmas.Option.{get_or_from_slice_get}
+use Rattle.slotted_lists.proofs.Maps.{length-values, length-keys}
 use Rattle.slotted_slots.specs.Maps.{values, value_of}
 use Rattle.slotted_classes.proofs.DistinctValues.{values_keys, keys_values, keys_as_many}
-use Rattle.slotted_classes.proofs.NameMaps.{length-values, length-keys, below_next}
+use Rattle.slotted_classes.proofs.NameMaps.{below_next}
 use Rattle.slotted_operations.proofs.names.values_are_keys.Goals as goal
 
 pub returns-then-len : goal.returns-then-len

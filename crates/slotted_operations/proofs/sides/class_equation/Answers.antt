@@ -1,4 +1,5 @@
 use Rattle.std.proofs.Common.{rules, ◌≡◌, ◌∙◌, ℕ, List, length, ap, arith, subst, sym}
+use Rattle.slotted_lists.proofs.Maps.{length-keys}
 use Rattle.slotted_model.specs.Applied.{Applied, keys}
 use Rattle.slotted_model.specs.Classes.{IsFull, canonical_slots}
 use Rattle.slotted_model.specs.Correspondence.{IsFullMap, IsPartialInjection, identity, same_names, turned}
@@ -9,7 +10,6 @@ use Rattle.slotted_model.proofs.Represented.FillingEquations.{keys-identity}
 use Rattle.slotted_proofs.specs.Equations.{to_applied}
 use Rattle.slotted_classes.specs.Kept.{nodes_of, entries_of}
 use Rattle.slotted_classes.proofs.KeptLists.{length-nodes_of}
-use Rattle.slotted_classes.proofs.NameMaps.{length-keys}
 use Rattle.slotted_operations.proofs.Ids.MissingNames.{pairs-partial, pairs-turned}
 use Rattle.slotted_operations.proofs.Unions.WholeUnions.{large-slots}
 use Rattle.slotted_operations.proofs.sides.class_equation.Goals as goal

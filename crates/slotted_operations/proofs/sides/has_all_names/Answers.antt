@@ -1,13 +1,14 @@
 use Rattle.std.proofs.Common.{◌∙◌, arith, sym}
 use Rattle.std.proofs.lemmas.Bool.Decides.{Decides-eqb}
 use Rattle.slotted_proofs.specs.Equations.{to_applied}
-use Rattle.slotted_operations.proofs.Ids.FullIds.{full-by_count, length-classes, length-rows}
+use Rattle.slotted_classes.proofs.KeptLists.{length-nodes_of}
+use Rattle.slotted_operations.proofs.Ids.FullIds.{full-by_count, length-rows}
 use Rattle.slotted_operations.proofs.sides.has_all_names.Goals as goal
 
 pub names_of-requires : goal.names_of-requires
 names_of-requires g c =
     let k = c.args.store.now in
-    omega (arith, c.requires.findable.in_range, length-classes k, length-rows k c.requires.good)
+    omega (arith, c.requires.findable.in_range, length-nodes_of k, length-rows k c.requires.good)
 
 pub returns : goal.returns
 returns g c =

@@ -1,7 +1,7 @@
 -- Each node stands over the terms that were built last.
 use Rattle.std.proofs.Common.{◌≡◌, ℕ, ◌++◌, ◌∷◌, [], length, sym, subst, ap, ◌∙◌, arith, append_assoc}
+use Rattle.slotted_lists.proofs.Lists.{length-zero as nothing}
 use Rattle.slotted_nodes.specs.Form.{Form}
-use Rattle.slotted_patterns.proofs.PieceTexts.{nothing}
 use Rattle.slotted_terms.specs.Flat.{flat_of}
 use Rattle.slotted_terms.proofs.FlatTrees.{flat_last, only_last}
 use Rattle.slotted_operations.specs.Preorder.{HasEnough, built, over_last_of}

@@ -3,11 +3,11 @@ use Rattle.std.proofs.Common.{◌≡◌, ◌∙◌, ◌*◌, ◌<◌, [], arith,
 use Rattle.std.specs.Prelude.{All, IsTrue}
 use Rattle.std.proofs.lemmas.List.Elements.{All-nil}
 use Rattle.std.proofs.lemmas.Result.{IfOk-weaker}
+use Rattle.slotted_lists.proofs.Results.{IfOk-both}
 use Rattle.slotted_slots.specs.Table.{is_known, slot_limit, AllKnown}
 use Rattle.slotted_languages.specs.NewNames.{BindersAreUnknown, PutsIn}
 use Rattle.slotted_languages.specs.NodeTerm.{nameless_node}
 use Rattle.slotted_languages.proofs.PutIn.{answer_is_known}
-use Rattle.slotted_languages.proofs.TakenNames.{both_ok}
 use Rattle.slotted_model.specs.Classes.{IsFull}
 use Rattle.slotted_proofs.specs.Equations.{to_applied}
 use Rattle.slotted_classes.specs.Kept.{nodes_of}
@@ -26,7 +26,7 @@ returns-clause-fresh g c =
     let fits = g.met.L.LanguageChildren.fits in
     let b = c.in_ok-node.node in
     let u = c.syn_node.new.table in
-    both_ok c.refresh_private.result (λ n. nameless_node (form n) ≡ nameless_node (form b)) (λ n. BindersAreUnknown u (form b) (form n)) (λ n. HasUnknownBinders c.args.table.now (form n))
+    IfOk-both c.refresh_private.result (λ n. nameless_node (form n) ≡ nameless_node (form b)) (λ n. BindersAreUnknown u (form b) (form n)) (λ n. HasUnknownBinders c.args.table.now (form n))
     (λ n same unknown. binders-unknown (form b) (form n) (fits b) (fits n) same c.args.table.now u c.syn_node.ensures.more unknown) c.refresh_private.ensures.same c.refresh_private.ensures.unused
 
 pub returns-clause-children : goal.returns-clause-children
@@ -48,7 +48,7 @@ returns-clause-valid g c =
     let at : KnowsSlotsAnd c.args.table.now k c.args.a.now.m = (c.requires.fresh_slots, c.requires.full.1) in
     let known : AllKnown u (form b).names = c.in_ok-node.ensures.known at in
     let few : length (form b).names < slot_limit = c.in_ok-node.ensures.small in
-    both_ok c.refresh_private.result (λ n. nameless_node (form n) ≡ nameless_node (form b)) (λ n. PutsIn v [] (form b) (form n)) (λ n. IsNodeOver v k (form n))
+    IfOk-both c.refresh_private.result (λ n. nameless_node (form n) ≡ nameless_node (form b)) (λ n. PutsIn v [] (form b) (form n)) (λ n. IsNodeOver v k (form n))
     (λ n same puts. (
       omega (arith, few, as-many_places (form b) (form n) (fits b) (fits n) same),
       answer_is_known u v [] (form b) (form n) c.refresh_private.ensures.more known (All-nil (λ s. IsTrue (is_known u s))) puts,

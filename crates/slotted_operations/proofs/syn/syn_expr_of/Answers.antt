@@ -1,7 +1,7 @@
 -- The id is filled, and what it is then is given out over the table that made its names.
 use Rattle.std.proofs.Common.{◌≡◌, ap, subst, arith, inl, inr, rules}
+use Rattle.slotted_lists.proofs.Results.{IfOk-both}
 use Rattle.slotted_theory.specs.Nameless.{nameless}
-use Rattle.slotted_languages.proofs.TakenNames.{both_ok}
 use Rattle.slotted_terms.specs.Valid.{IsValidTerm}
 use Rattle.slotted_model.specs.Applied.{Applied}
 use Rattle.slotted_model.specs.Classes.{term_of}
@@ -32,7 +32,7 @@ returns-clause-ok g c =
     let at : KnowsSlotsAnd u k c.in_ok-filled.filled.m = (fresh_slots-more t u k c.fill_id.ensures.more c.requires.fresh_slots, c.in_ok-filled.ensures.known known) in
     let fresh : FillsFresh (image_of k) t w a b =
     fills-fresh k t a b known c.in_ok-filled.ensures.fills u w c.in_ok-filled.ensures.id c.in_ok-filled.ensures.made c.syn_expr.ensures.more in
-    both_ok c.syn_expr.result (λ x. nameless x ≡ term_of nodes b) (λ x. KnowsSlotsAnd u k c.in_ok-filled.filled.m → IsValidTerm w x) (λ x. GivesTerm t w k c.args.a.now x)
+    IfOk-both c.syn_expr.result (λ x. nameless x ≡ term_of nodes b) (λ x. KnowsSlotsAnd u k c.in_ok-filled.filled.m → IsValidTerm w x) (λ x. GivesTerm t w k c.args.a.now x)
     (λ x e v. record {
       filled = record { filled = b; fills = fresh; term = e };
       term = λ full. subst (λ (d : Applied). nameless x ≡ term_of nodes d) (c.in_ok-filled.ensures.same full) e;

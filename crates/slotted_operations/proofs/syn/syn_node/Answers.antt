@@ -20,7 +20,8 @@ use Rattle.slotted_operations.proofs.TermsOverIds.Binders.{binders_counted}
 use Rattle.slotted_operations.proofs.Graphs.FreshSlots.{stored-known}
 use Rattle.slotted_operations.proofs.Ids.NodesOfIds.{children-full, given-size, made-by_binders, lacked-by_binders, err-no_ok}
 use Rattle.slotted_classes.proofs.KeptLists.{length-nodes_of}
-use Rattle.slotted_operations.proofs.Ids.CanonicalTerms.{node_at-is, knows-names, places-counted}
+use Rattle.slotted_classes.proofs.ClassNodes.{node-is}
+use Rattle.slotted_operations.proofs.Ids.CanonicalTerms.{knows-names, places-counted}
 use Rattle.slotted_operations.proofs.syn.syn_node.Goals as goal
 
 pub apply_slotmap-requires : goal.apply_slotmap-requires
@@ -28,7 +29,7 @@ apply_slotmap-requires g c =
     let k = c.args.store.now in
     let a = to_applied c.args.a.now in
     let lt : a.0 < length k.classes = omega (arith, c.requires.full.in_range, length-nodes_of k) in
-    knows-names (nodes_of k) a c.requires.full (g.L.LanguageChildren.form c.node_of.result.now) (ap nameless_node c.node_of.ensures ∙ node_at-is k a.0 lt)
+    knows-names (nodes_of k) a c.requires.full (g.L.LanguageChildren.form c.node_of.result.now) (ap nameless_node c.node_of.ensures ∙ node-is k a.0 lt)
 
 pub returns-clause-full : goal.returns-clause-full
 returns-clause-full g c e at =
@@ -39,7 +40,7 @@ returns-clause-full g c e at =
     let f : Form = form c.node_of.result.now in
     let fits = g.met.L.LanguageChildren.fits c.node_of.result.now in
     let lt : a.0 < length k.classes = omega (arith, c.requires.full.in_range, length-nodes_of k) in
-    let is = ap nameless_node c.node_of.ensures ∙ node_at-is k a.0 lt in
+    let is = ap nameless_node c.node_of.ensures ∙ node-is k a.0 lt in
     elim (c.apply_slotmap.ensures.full e) [
       | inl large ↦ inr (c.requires.full.in_range, omega (arith, large, ap place_count is, places-counted f fits))
       | inr out ↦
@@ -53,7 +54,7 @@ returns-clause-children g c =
     let k = c.args.store.now in
     let a = to_applied c.args.a.now in
     let lt : a.0 < length k.classes = omega (arith, c.requires.full.in_range, length-nodes_of k) in
-    let is = ap nameless_node c.node_of.ensures ∙ node_at-is k a.0 lt in
+    let is = ap nameless_node c.node_of.ensures ∙ node-is k a.0 lt in
     IfOk-weaker c.apply_slotmap.result _ (λ n. All (IsFull (nodes_of k)) (child_ids (form n)))
     (λ n e. children-full (nodes_of k) c.requires.good.stored.sane.sound.canonical a c.requires.full (form n) (g.met.L.LanguageChildren.fits n) (e ∙ ap (moved (filled a.1)) is)) c.apply_slotmap.ensures.renamed
 
@@ -89,7 +90,7 @@ returns-clause-takes g c at =
     let t = c.args.table.now in
     let f : Form = form c.node_of.result.now in
     let lt : a.0 < length k.classes = omega (arith, c.requires.full.in_range, length-nodes_of k) in
-    let is = ap nameless_node c.node_of.ensures ∙ node_at-is k a.0 lt in
+    let is = ap nameless_node c.node_of.ensures ∙ node-is k a.0 lt in
     record {
       names = c.apply_slotmap.ensures.kept;
       taken = made-by_binders t c.apply_slotmap.new.table f (values a.1) (node_binders (nodes_of k) a.0)

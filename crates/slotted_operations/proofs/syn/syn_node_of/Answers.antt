@@ -1,8 +1,8 @@
 -- The id is filled, and what it is then is given out over the table that made its names.
 use Rattle.std.proofs.Common.{◌≡◌, ap, subst, arith, inl, inr, rules}
 use Rattle.std.specs.Prelude.{All}
+use Rattle.slotted_lists.proofs.Results.{IfOk-both, IfOk-three}
 use Rattle.slotted_nodes.specs.Form.{IsSmall}
-use Rattle.slotted_languages.proofs.TakenNames.{both_ok}
 use Rattle.slotted_slots.specs.Table.{AllKnown}
 use Rattle.slotted_model.specs.Applied.{Applied}
 use Rattle.slotted_model.specs.Classes.{IsFull}
@@ -15,7 +15,6 @@ use Rattle.slotted_operations.specs.Good.{IsNodeOver, image_of}
 use Rattle.slotted_operations.specs.Syn.{FillsFresh, GivesNode, KnowsSlotsAnd, names_lacking, node_binders, slots_for_node}
 use Rattle.slotted_operations.proofs.Ids.FilledNames.{filled-full, fills-fresh}
 use Rattle.slotted_operations.proofs.Graphs.FreshSlots.{fresh_slots-more}
-use Rattle.slotted_operations.proofs.Ids.NodesOfIds.{ok-three}
 use Rattle.slotted_operations.proofs.Graphs.Finds.{full-findable}
 use Rattle.slotted_operations.proofs.Additions.Tables.{makes-more, makes-then, runs_out-more, runs_out-then}
 use Rattle.slotted_operations.proofs.syn.syn_node_of.Goals as goal
@@ -38,14 +37,14 @@ returns-clause-ok g c =
     let fresh : FillsFresh (image_of k) t w a b =
     fills-fresh k t a b known c.in_ok-filled.ensures.fills u w c.in_ok-filled.ensures.id c.in_ok-filled.ensures.made c.syn_node.ensures.more in
     let form = g.L.LanguageChildren.form in
-    both_ok c.syn_node.result (λ n. IsNodeOf nodes b (form n)) (λ n. IsNodeOver w k (form n) × All (IsFull nodes) (child_ids (form n))) (λ n. GivesNode t w k c.args.a.now (form n))
+    IfOk-both c.syn_node.result (λ n. IsNodeOf nodes b (form n)) (λ n. IsNodeOver w k (form n) × All (IsFull nodes) (child_ids (form n))) (λ n. GivesNode t w k c.args.a.now (form n))
     (λ n e v. record {
       filled = record { filled = b; fills = fresh; node = e };
       node = λ full. subst (λ (x : Applied). IsNodeOf nodes x (form n)) (c.in_ok-filled.ensures.same full) e;
       valid = v.0;
       children = v.1;
     }) c.syn_node.ensures.node
-    (ok-three c.syn_node.result (λ n. IsSmall (form n)) (λ n. KnowsSlotsAnd u k c.in_ok-filled.filled.m → AllKnown w (form n).names) (λ n. All (IsFull nodes) (child_ids (form n))) (λ n. IsNodeOver w k (form n) × All (IsFull nodes) (child_ids (form n)))
+    (IfOk-three c.syn_node.result (λ n. IsSmall (form n)) (λ n. KnowsSlotsAnd u k c.in_ok-filled.filled.m → AllKnown w (form n).names) (λ n. All (IsFull nodes) (child_ids (form n))) (λ n. IsNodeOver w k (form n) × All (IsFull nodes) (child_ids (form n)))
     (λ n small names children. ((small, names at, λ j d l. full-findable k c.requires.good _ (children j d l)), children)) c.syn_node.ensures.small c.syn_node.ensures.known c.syn_node.ensures.children)
 
 pub returns-clause-takes : goal.returns-clause-takes

@@ -3,10 +3,10 @@ use Rattle.std.proofs.Common.{◌≡◌, ◌+◌, ◌++◌, ◌∷◌, [], ◌�
 use Rattle.std.proofs.lemmas.Bool.{false≢true}
 use Rattle.std.proofs.lemmas.List.{map-append, take_more}
 use Rattle.std.proofs.lemmas.List.Elements.{All-nil, All-push, All-same, All-take}
+use Rattle.slotted_lists.proofs.Lists.{length-zero as nothing}
 use Rattle.slotted_theory.specs.Term.{Term}
 use Rattle.slotted_languages.specs.Filled.{term_of}
 use Rattle.slotted_patterns.proofs.PatternCopies.{mapped_last}
-use Rattle.slotted_patterns.proofs.PieceTexts.{nothing}
 use Rattle.slotted_operations.specs.Nodes.{IsValidOver}
 use Rattle.slotted_operations.specs.SmallNodes.{IsSmallValidTerm, IsTermOver, total_size}
 use Rattle.slotted_operations.proofs.TermsOverIds.TermSizes.{all-before, over-exact, over-valid, total_size-append, total_size-at, total_size-take, total_size-under, under-exact}

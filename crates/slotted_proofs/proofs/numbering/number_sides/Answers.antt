@@ -1,10 +1,11 @@
 use Rattle.std.proofs.Common.{◌≡◌, ℕ, List, length, arith, ap, ◌∙◌, sym, subst}
+use Rattle.slotted_lists.proofs.Maps.{length-keys}
 use Rattle.slotted_theory.specs.FiniteMaps.{value_of, with_values}
 use Rattle.slotted_slots.specs.Table.{numeric_slot}
 use Rattle.slotted_model.specs.Applied.{keys}
 use Rattle.slotted_model.specs.Correspondence.{numbered_from, numbered_after, composite, turned}
 use Rattle.slotted_proofs.specs.Equations.{Statement, AreSides}
-use Rattle.slotted_proofs.proofs.NumberedSides.{length-numbered_from, length-keys, keys-numbered_from, sides_by_partners}
+use Rattle.slotted_proofs.proofs.NumberedSides.{length-numbered_from, keys-numbered_from, sides_by_partners}
 use Rattle.slotted_proofs.proofs.numbering.number_sides.Goals as goal
 
 pub number_right-requires-clause-few : goal.number_right-requires-clause-few

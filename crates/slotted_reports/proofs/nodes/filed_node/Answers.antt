@@ -2,7 +2,7 @@
 use Rattle.std.proofs.Common.{rules, ◌≤◌, ◌<◌, ◌+◌, ◌∙◌, ℕ, List, length, ap, sym, subst, inl, inr, arith}
 use Rattle.std.specs.Prelude.{Contains, option_map}
 use Rattle.std.proofs.lemmas.Bool.{cases_lt}
-use Rattle.slotted_theory.proofs.Lists.{Contains-nil}
+use Rattle.slotted_lists.proofs.Contained.{Contains-nil}
 use Rattle.slotted_slots.specs.Table.{slot_limit}
 use Rattle.slotted_proofs.specs.Equations.{to_applied}
 use Rattle.slotted_hashcons.proofs.Indexed.{place-within}

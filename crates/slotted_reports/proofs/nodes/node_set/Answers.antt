@@ -3,7 +3,7 @@ use Rattle.std.proofs.Common.{rules, ◌<◌, ◌∙◌, List, ℕ, ap, get_or, 
 use Rattle.std.specs.Prelude.{Contains, not}
 use Rattle.std.specs.HashSet.{PutsKey}
 use Rattle.std.proofs.lemmas.List.Elements.{Contains-get_or}
-use Rattle.slotted_theory.proofs.Lists.{Contains-nil}
+use Rattle.slotted_lists.proofs.Contained.{Contains-nil}
 use Rattle.slotted_proofs.specs.Equations.{to_applied}
 use Rattle.slotted_reports.specs.Nodes.{IsClassNode}
 use Rattle.slotted_reports.proofs.ClassNodes.{node-absent, node-put}

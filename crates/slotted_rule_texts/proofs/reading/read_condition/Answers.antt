@@ -1,9 +1,9 @@
 use Rattle.std.proofs.Common.{ap, sym, ◌∙◌}
 use Rattle.std.specs.Prelude.{codes}
+use Rattle.slotted_lists.proofs.Splitting.{parts_around-none, split}
 use Rattle.slotted_rule_texts.specs.Asked.{condition_by}
 use Rattle.slotted_rule_texts.specs.Parts.{parts_around}
 use Rattle.slotted_rule_texts.proofs.Asking.{condition_is}
-use Rattle.slotted_rule_texts.proofs.Splitting.{parts_around-none, split}
 use Rattle.slotted_rule_texts.proofs.reading.read_condition.Goals as goal
 
 pub returns-in-Some : goal.returns-in-Some

@@ -1,9 +1,9 @@
 use Rattle.std.proofs.Common.{ap, sym, ◌∙◌, subst, Some, [], IfOk, IfErr}
 use Rattle.std.specs.Prelude.{codes}
+use Rattle.slotted_lists.proofs.Splitting.{parts_around-none, split}
 use Rattle.slotted_rule_texts.specs.Asked.{RuleAsked, conditional_or, sides_asked}
 use Rattle.slotted_rule_texts.specs.Told.{Tells, IsRefused}
 use Rattle.slotted_rule_texts.proofs.Asking.{named_empty, named_some, sign_refused}
-use Rattle.slotted_rule_texts.proofs.Splitting.{parts_around-none, split}
 use Rattle.slotted_rule_texts.proofs.reading.read_named.Goals as goal
 
 pub returns-then-is_empty-clause-err : goal.returns-then-is_empty-clause-err

@@ -1,10 +1,10 @@
 use Rattle.std.proofs.Common.{ap, sym, ◌∙◌, refl}
 use Rattle.std.specs.Prelude.{codes, map, Some}
+use Rattle.slotted_lists.proofs.Splitting.{parts_around-none, split}
 use Rattle.slotted_rule_texts.specs.Told.{told_condition}
 use Rattle.slotted_rule_texts.specs.Asked.{sides_by, rule_by}
 use Rattle.slotted_rule_texts.specs.Parts.{parts_around}
 use Rattle.slotted_rule_texts.proofs.Asking.{sides_are}
-use Rattle.slotted_rule_texts.proofs.Splitting.{parts_around-none, split}
 use Rattle.slotted_rule_texts.proofs.reading.read_sides.Goals as goal
 
 pub returns-in-Some-clause-ok : goal.returns-in-Some-clause-ok

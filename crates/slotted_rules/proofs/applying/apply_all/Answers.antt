@@ -1,6 +1,7 @@
 -- Each rule is applied in the graph that the ones before it left.
 use Rattle.std.proofs.Common.{◌≡◌, ◌∙◌, List, [], ◌∷◌, ◌++◌, false, Option, Some, refl, ap, inl, inr, Result, IfErr, subst}
 use Rattle.std.specs.Prelude.{option_to_list, ◌⊎◌, IsTrue}
+use Rattle.slotted_lists.proofs.Booleans.{unless-true}
 use Rattle.slotted_model_rules.specs.Runners.{none_applied}
 use Rattle.slotted_graph.proofs.Extending.{extends-itself, extends-then}
 use Rattle.slotted_graph.proofs.Saying.{lowers-itself}
@@ -10,7 +11,7 @@ use Rattle.slotted_slots.specs.declared.error.Error.{Error}
 use Rattle.slotted_slots.specs.declared.error.Error.TheVariants.{Failed}
 use Rattle.slotted_slots.specs.Error.{IsShortage}
 use Rattle.slotted_rules.proofs.Lowering.{later-lowers}
-use Rattle.slotted_rules.proofs.AppliedRules.{applied-more, not-failed-so, ok-well, applying-stops, not-failed, refused-one, shortage_of}
+use Rattle.slotted_rules.proofs.AppliedRules.{applied-more, ok-well, applying-stops, not-failed, refused-one, shortage_of}
 use Rattle.slotted_rules.proofs.applying.apply_all.Goals as goal
 
 popped : {F : Type 0} (old new : List F) (o : Option F) (x : F) → old ≡ option_to_list o ++ new → o ≡ Some x → old ≡ x ∷ new
@@ -42,8 +43,8 @@ loop-rule-preserved g c =
     record {
       so_far = applied-more g.R.RewriteT.applies g.R.RewriteT.can_apply c.args.rules.now c.loop-rule.rule-index c.rule-item.result c.loop-rule-test.true c.rule-item.is c.args.found.items c.loop-rule.left.items
           c.pop_front.new.self.items c.in-Some.next (popped c.loop-rule.left.items c.pop_front.new.self.items c.pop_front.result c.in-Some.next c.pop_front.ensures.items c.in-Some.is) c.args.graph.now c.loop-rule.graph c.loop-rule.invariant.so_far
-          g.met.R.RewriteT.can_apply_stays h c.in_ok-apply-in-Some.ensures.ok (not-failed-so h.failed well c.apply.ensures.extends) well;
-      lowers = not-failed-so h.failed well (later-lowers g.N.Analysis.codes g.N.Analysis.meaning g.met.N.Analysis.is_merge c.args.graph.now c.loop-rule.graph c.apply.new.graph c.loop-rule.invariant.so_far.extends c.loop-rule.invariant.lowers c.apply.ensures.lowers);
+          g.met.R.RewriteT.can_apply_stays h c.in_ok-apply-in-Some.ensures.ok (unless-true h.failed well c.apply.ensures.extends) well;
+      lowers = unless-true h.failed well (later-lowers g.N.Analysis.codes g.N.Analysis.meaning g.met.N.Analysis.is_merge c.args.graph.now c.loop-rule.graph c.apply.new.graph c.loop-rule.invariant.so_far.extends c.loop-rule.invariant.lowers c.apply.ensures.lowers);
     }
 
 pub returns-in_err-apply-in-Some-clause-lowers : goal.returns-in_err-apply-in-Some-clause-lowers

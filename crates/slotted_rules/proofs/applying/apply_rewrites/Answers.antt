@@ -1,6 +1,7 @@
 -- The graph's measure before and after.
 use Rattle.std.proofs.Common.{◌≡◌, ◌∙◌, false, Result, Ok, ap, sym, subst, IfErr}
 use Rattle.std.specs.Prelude.{IsErrAnd, ◌⊎◌, IsTrue}
+use Rattle.slotted_lists.proofs.Booleans.{unless-true}
 use Rattle.slotted_slots.specs.declared.error.Error.{Error}
 use Rattle.slotted_slots.specs.Error.{IsShortage}
 use Rattle.slotted_operations.specs.Graph.{Graph}
@@ -8,7 +9,7 @@ use Rattle.slotted_graph.specs.Analysed.{LowersData}
 use Rattle.slotted_rules.specs.Applying.{RefusesRules}
 use Rattle.slotted_languages.proofs.HandedOn.{handed_err}
 use Rattle.slotted_rules.proofs.LeftGraphs.{left-err, left-so}
-use Rattle.slotted_rules.proofs.AppliedRules.{not-failed-so, ok-well}
+use Rattle.slotted_rules.proofs.AppliedRules.{ok-well}
 use Rattle.slotted_rules.proofs.Progress.{progressed, same_measure}
 use Rattle.slotted_rules.proofs.applying.apply_rewrites.Goals as goal
 
@@ -20,8 +21,8 @@ returns-clause-changed g c =
     let well : a.failed ≡ false = ok-well _ a.failed c.apply_and_modify-applied.result c.in_ok-failing.field-0 ok c.apply_and_modify-applied.ensures.fails in
     let left : c.failing.new.graph ≡ a = c.failing.ensures.other (λ short. subst (λ (r : Result _ Error). IsErrAnd r IsShortage) ok short) in
     progressed c.args.graph.now.image c.failing.new.graph.image c.progress-before.result c.progress.result
-    (not-failed-so c.args.graph.now.failed (sym c.is_failed.ensures.failed ∙ c.if-is_failed.false) c.progress-before.ensures.measure)
-    (not-failed-so c.failing.new.graph.failed (ap (λ (x : Graph). x.failed) left ∙ well) c.progress.ensures.measure)
+    (unless-true c.args.graph.now.failed (sym c.is_failed.ensures.failed ∙ c.if-is_failed.false) c.progress-before.ensures.measure)
+    (unless-true c.failing.new.graph.failed (ap (λ (x : Graph). x.failed) left ∙ well) c.progress.ensures.measure)
     c.ne.result c.ne.ensures
 
 pub returns-in_err-failing-clause-lowers : goal.returns-in_err-failing-clause-lowers

@@ -2,6 +2,7 @@
 use Rattle.std.proofs.Common.{◌≡◌, ◌∙◌, ◌⊎◌, ◌+◌, ◌++◌, [], ◌∷◌, false, Result, IfErr, take, take_all, sym, ap, subst, inl, inr}
 use Rattle.std.proofs.lemmas.Bool.{false≢true}
 use Rattle.std.proofs.lemmas.List.{take_more}
+use Rattle.slotted_lists.proofs.Booleans.{unless-true}
 use Rattle.slotted_slots.specs.declared.error.Error.{Error}
 use Rattle.slotted_slots.specs.declared.error.Error.TheVariants.{Failed}
 use Rattle.slotted_slots.specs.Error.{IsShortage}
@@ -12,7 +13,7 @@ use Rattle.slotted_graph.proofs.Extending.{extends-itself, extends-then}
 use Rattle.slotted_rules.specs.Applying.{AreRefusedBy, CanApplyAll, StopsSearching}
 use Rattle.slotted_graph.proofs.Saying.{lowers-itself}
 use Rattle.slotted_rules.proofs.Lowering.{later-lowers}
-use Rattle.slotted_rules.proofs.AppliedRules.{can-more, handed_and, not-failed, not-failed-so, ok-well, refused-one, searches-more, shortage_of, searching-stops}
+use Rattle.slotted_rules.proofs.AppliedRules.{can-more, handed_and, not-failed, ok-well, refused-one, searches-more, shortage_of, searching-stops}
 use Rattle.slotted_rules.proofs.applying.search_all.Goals as goal
 
 pub loop-rule-init : goal.loop-rule-init
@@ -62,7 +63,7 @@ loop-rule-preserved g c =
     let i = c.loop-rule.rule-index in
     let h = c.search.new.graph in
     let well : h.failed ≡ false = ok-well _ h.failed c.search.result x c.in_ok-search.was c.search.ensures.fails in
-    let more : ExtendsTo c.loop-rule.graph h = not-failed-so h.failed well c.search.ensures.extends in
+    let more : ExtendsTo c.loop-rule.graph h = unless-true h.failed well c.search.ensures.extends in
     let found = c.in_ok-search.ensures.ok in
     let rules : take (i + 1) c.args.rules.now ≡ take i c.args.rules.now ++ c.rule-item.result ∷ [] = take_more c.args.rules.now i c.rule-item.result c.loop-rule-test.true ∙ ap (λ r. take i c.args.rules.now ++ r ∷ []) (sym c.rule-item.is) in
     record {
@@ -77,7 +78,7 @@ loop-rule-preserved g c =
             (can-more g.R.RewriteT.can_apply g.met.R.RewriteT.can_apply_stays (take i c.args.rules.now) c.loop-rule.found.items c.loop-rule.graph h more c.loop-rule.invariant.so_far.can_apply c.rule-item.result x
             (g.met.R.RewriteT.searched_fits c.rule-item.result c.loop-rule.graph h x found)));
       };
-      lowers = not-failed-so h.failed well (later-lowers g.N.Analysis.codes g.N.Analysis.meaning g.met.N.Analysis.is_merge c.args.graph.now c.loop-rule.graph h c.loop-rule.invariant.so_far.extends c.loop-rule.invariant.lowers c.search.ensures.lowers);
+      lowers = unless-true h.failed well (later-lowers g.N.Analysis.codes g.N.Analysis.meaning g.met.N.Analysis.is_merge c.args.graph.now c.loop-rule.graph h c.loop-rule.invariant.so_far.extends c.loop-rule.invariant.lowers c.search.ensures.lowers);
     }
 
 pub returns-clause-ok : goal.returns-clause-ok

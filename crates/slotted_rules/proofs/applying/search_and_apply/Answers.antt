@@ -1,5 +1,6 @@
 use Rattle.std.specs.Prelude.{◌⊎◌}
 use Rattle.std.proofs.Common.{◌≡◌, false, inl, inr, Result, IfErr, subst}
+use Rattle.slotted_lists.proofs.Booleans.{unless-true}
 use Rattle.slotted_graph.proofs.Extending.{extends-then}
 use Rattle.slotted_rules.specs.Applying.{RefusesRules, StopsSearching, apply_refused, search_refused}
 use Rattle.slotted_rules.proofs.Answering.{if-err-mapped}
@@ -7,7 +8,7 @@ use Rattle.slotted_languages.proofs.HandedOn.{handed_err}
 use Rattle.slotted_slots.specs.declared.error.Error.{Error}
 use Rattle.slotted_slots.specs.Error.{IsShortage}
 use Rattle.slotted_rules.proofs.Lowering.{later-lowers}
-use Rattle.slotted_rules.proofs.AppliedRules.{not-failed-so, ok-well}
+use Rattle.slotted_rules.proofs.AppliedRules.{ok-well}
 use Rattle.slotted_rules.proofs.applying.search_and_apply.Goals as goal
 
 pub returns-clause-extends : goal.returns-clause-extends
@@ -16,14 +17,14 @@ returns-clause-extends g c =
     let well : f.failed ≡ false = ok-well _ f.failed c.search_all.result c.in_ok-found.found c.in_ok-found.was c.search_all.ensures.fails in
     elim c.apply_all.ensures.extends [
       | inl failed ↦ inl failed
-      | inr more ↦ inr (extends-then c.args.graph.now f c.apply_all.new.graph (not-failed-so f.failed well c.search_all.ensures.extends) more)
+      | inr more ↦ inr (extends-then c.args.graph.now f c.apply_all.new.graph (unless-true f.failed well c.search_all.ensures.extends) more)
     ]
 
 pub returns-clause-lowers : goal.returns-clause-lowers
 returns-clause-lowers g c =
     let f = c.search_all.new.graph in
     let well : f.failed ≡ false = ok-well _ f.failed c.search_all.result c.in_ok-found.found c.in_ok-found.was c.search_all.ensures.fails in
-    later-lowers g.N.Analysis.codes g.N.Analysis.meaning g.met.N.Analysis.is_merge c.args.graph.now f c.apply_all.new.graph (not-failed-so f.failed well c.search_all.ensures.extends) (not-failed-so f.failed well c.search_all.ensures.lowers) c.apply_all.ensures.lowers
+    later-lowers g.N.Analysis.codes g.N.Analysis.meaning g.met.N.Analysis.is_merge c.args.graph.now f c.apply_all.new.graph (unless-true f.failed well c.search_all.ensures.extends) (unless-true f.failed well c.search_all.ensures.lowers) c.apply_all.ensures.lowers
 
 pub returns-in_err-found-clause-refused : goal.returns-in_err-found-clause-refused
 returns-in_err-found-clause-refused g c =

@@ -1,9 +1,10 @@
 -- The hook is called in the graph that the rules leave.
 use Rattle.std.specs.Prelude.{◌⊎◌, IsTrue}
 use Rattle.std.proofs.Common.{◌≡◌, false, refl, inl, inr}
+use Rattle.slotted_lists.proofs.Booleans.{unless-true}
 use Rattle.slotted_graph.specs.Extension.{ExtendsTo}
 use Rattle.slotted_graph.proofs.Extending.{extends-then}
-use Rattle.slotted_rules.proofs.AppliedRules.{not-failed-so, ok-well, not-failed, shortage_of}
+use Rattle.slotted_rules.proofs.AppliedRules.{ok-well, not-failed, shortage_of}
 use Rattle.slotted_rules.proofs.Lowering.{later-lowers}
 use Rattle.slotted_languages.proofs.HandedOn.{handed_err}
 use Rattle.slotted_rules.specs.Applying.{AreModified, AreRefusedBy, RefusesRules}
@@ -19,7 +20,7 @@ returns-in_err-stop-clause-extends g c =
     let well : f.failed ≡ false = ok-well _ f.failed c.apply_rewrites.result c.in_ok-changed.changed c.in_ok-changed.was c.apply_rewrites.ensures.fails.0 in
     elim c.call_hook.ensures.extends [
       | inl failed ↦ inl failed
-      | inr more ↦ inr (extends-then c.args.graph.now f c.call_hook.new.graph (not-failed-so {P = ExtendsTo c.args.graph.now c.apply_rewrites.new.graph} c.apply_rewrites.new.graph.failed well c.apply_rewrites.ensures.extends) more)
+      | inr more ↦ inr (extends-then c.args.graph.now f c.call_hook.new.graph (unless-true {P = ExtendsTo c.args.graph.now c.apply_rewrites.new.graph} c.apply_rewrites.new.graph.failed well c.apply_rewrites.ensures.extends) more)
     ]
 
 pub returns-clause-ok : goal.returns-clause-ok
@@ -36,20 +37,20 @@ returns-clause-extends g c =
     let well : f.failed ≡ false = ok-well _ f.failed c.apply_rewrites.result c.in_ok-changed.changed c.in_ok-changed.was c.apply_rewrites.ensures.fails.0 in
     elim c.call_hook.ensures.extends [
       | inl failed ↦ inl failed
-      | inr more ↦ inr (extends-then c.args.graph.now f c.call_hook.new.graph (not-failed-so {P = ExtendsTo c.args.graph.now c.apply_rewrites.new.graph} c.apply_rewrites.new.graph.failed well c.apply_rewrites.ensures.extends) more)
+      | inr more ↦ inr (extends-then c.args.graph.now f c.call_hook.new.graph (unless-true {P = ExtendsTo c.args.graph.now c.apply_rewrites.new.graph} c.apply_rewrites.new.graph.failed well c.apply_rewrites.ensures.extends) more)
     ]
 
 pub returns-in_err-stop-clause-lowers : goal.returns-in_err-stop-clause-lowers
 returns-in_err-stop-clause-lowers g c =
     let f = c.apply_rewrites.new.graph in
     let well : f.failed ≡ false = ok-well _ f.failed c.apply_rewrites.result c.in_ok-changed.changed c.in_ok-changed.was c.apply_rewrites.ensures.fails.0 in
-    later-lowers g.N.Analysis.codes g.N.Analysis.meaning g.met.N.Analysis.is_merge c.args.graph.now f c.call_hook.new.graph (not-failed-so f.failed well c.apply_rewrites.ensures.extends) (not-failed-so f.failed well c.apply_rewrites.ensures.lowers) c.call_hook.ensures.lowers
+    later-lowers g.N.Analysis.codes g.N.Analysis.meaning g.met.N.Analysis.is_merge c.args.graph.now f c.call_hook.new.graph (unless-true f.failed well c.apply_rewrites.ensures.extends) (unless-true f.failed well c.apply_rewrites.ensures.lowers) c.call_hook.ensures.lowers
 
 pub returns-clause-lowers : goal.returns-clause-lowers
 returns-clause-lowers g c =
     let f = c.apply_rewrites.new.graph in
     let well : f.failed ≡ false = ok-well _ f.failed c.apply_rewrites.result c.in_ok-changed.changed c.in_ok-changed.was c.apply_rewrites.ensures.fails.0 in
-    later-lowers g.N.Analysis.codes g.N.Analysis.meaning g.met.N.Analysis.is_merge c.args.graph.now f c.call_hook.new.graph (not-failed-so f.failed well c.apply_rewrites.ensures.extends) (not-failed-so f.failed well c.apply_rewrites.ensures.lowers) c.call_hook.ensures.lowers
+    later-lowers g.N.Analysis.codes g.N.Analysis.meaning g.met.N.Analysis.is_merge c.args.graph.now f c.call_hook.new.graph (unless-true f.failed well c.apply_rewrites.ensures.extends) (unless-true f.failed well c.apply_rewrites.ensures.lowers) c.call_hook.ensures.lowers
 
 pub returns-in_err-changed-clause-refused : goal.returns-in_err-changed-clause-refused
 returns-in_err-changed-clause-refused g c =
@@ -71,7 +72,7 @@ returns-in_err-stop-clause-refused g c =
     let well : f.failed ≡ false = ok-well _ f.failed c.apply_rewrites.result c.in_ok-changed.changed c.in_ok-changed.was c.apply_rewrites.ensures.fails.0 in
     let left : IsTrue h.failed ⊎ ExtendsTo c.args.graph.now h = elim c.call_hook.ensures.extends [
       | inl failed ↦ inl failed
-      | inr more ↦ inr (extends-then c.args.graph.now f h (not-failed-so {P = ExtendsTo c.args.graph.now f} f.failed well c.apply_rewrites.ensures.extends) more)
+      | inr more ↦ inr (extends-then c.args.graph.now f h (unless-true {P = ExtendsTo c.args.graph.now f} f.failed well c.apply_rewrites.ensures.extends) more)
     ] in
     let Refused : Error → Type 0 = RefusesTurn (RefusesRules g.Q.RewriteT.searches g.Q.RewriteT.gives_up g.Q.RewriteT.applies g.Q.RewriteT.breaks_off c.args.rules.now) (RulesOnce g.Q.RewriteT.searches g.Q.RewriteT.applies (AreModified g.N.Analysis.codes g.N.Analysis.meaning g.N.Analysis.may_ask g.N.Analysis.modifies) c.args.rules.now) g.H.Hook.gives_up (Calls g.H.Hook.leaves) (λ _. ⊥) (c.args.graph.now, c.args.hook.now) c.args.iterations (h, c.call_hook.new.hook) in
     let turn : Refused e = elim c.in_err-stop.ensures.refused [

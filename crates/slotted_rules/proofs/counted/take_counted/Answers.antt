@@ -1,6 +1,7 @@
 -- Each turn goes on from where the ones before it led.
 use Rattle.std.proofs.Common.{◌≡◌, ◌∷◌, [], List, false, length, length-append, Result, IfErr, ap, subst, inl, inr, arith}
 use Rattle.std.specs.Prelude.{◌⊎◌, IsTrue}
+use Rattle.slotted_lists.proofs.Booleans.{unless-true}
 use Rattle.slotted_slots.specs.declared.error.Error.{Error}
 use Rattle.slotted_slots.specs.declared.error.Error.TheVariants.{Failed}
 use Rattle.slotted_slots.specs.Error.{IsShortage}
@@ -10,7 +11,7 @@ use Rattle.slotted_graph.proofs.Extending.{extends-itself, extends-then}
 use Rattle.slotted_rules.specs.Applying.{AreModified, AreRefusedBy}
 use Rattle.slotted_rules.specs.Counting.{RefusesCounted, RefusesRule}
 use Rattle.slotted_rules.specs.WrittenLaws.{valid-later}
-use Rattle.slotted_rules.proofs.AppliedRules.{not-failed, not-failed-so, ok-well, shortage_of}
+use Rattle.slotted_rules.proofs.AppliedRules.{not-failed, ok-well, shortage_of}
 use Rattle.slotted_rules.proofs.Lowering.{later-lowers}
 use Rattle.slotted_graph.proofs.Saying.{lowers-itself}
 use Rattle.slotted_rules.specs.Counted.{BreaksTurns}
@@ -69,11 +70,11 @@ pub loop-alloc-preserved : goal.loop-alloc-preserved
 loop-alloc-preserved g c =
     let h = c.apply_counted.new.graph in
     let well : h.failed ≡ false = ok-well _ h.failed c.apply_counted.result c.in_ok-turn.turn c.in_ok-turn.was c.apply_counted.ensures.fails.0 in
-    let more : ExtendsTo c.loop-alloc.graph h = not-failed-so h.failed well c.apply_counted.ensures.extends in
+    let more : ExtendsTo c.loop-alloc.graph h = unless-true h.failed well c.apply_counted.ensures.extends in
     record {
       well = well;
       extends = extends-then c.args.graph.now c.loop-alloc.graph h c.loop-alloc.invariant.extends more;
-      lowers = not-failed-so h.failed well (later-lowers g.N.Analysis.codes g.N.Analysis.meaning g.met.N.Analysis.is_merge c.args.graph.now c.loop-alloc.graph c.apply_counted.new.graph c.loop-alloc.invariant.extends c.loop-alloc.invariant.lowers c.apply_counted.ensures.lowers);
+      lowers = unless-true h.failed well (later-lowers g.N.Analysis.codes g.N.Analysis.meaning g.met.N.Analysis.is_merge c.args.graph.now c.loop-alloc.graph c.apply_counted.new.graph c.loop-alloc.invariant.extends c.loop-alloc.invariant.lowers c.apply_counted.ensures.lowers);
       within = omega (arith, c.loop-alloc-test.true, c.len.ensures, ap length c.in_ok-push.ensures.items, length-append c.loop-alloc.turns.items (c.in_ok-turn.turn ∷ []));
       turns = turn-added g.L.LanguageChildren.form g.C.Cond.answers c.args.rules.now (AreModified g.N.Analysis.codes g.N.Analysis.meaning g.N.Analysis.may_ask g.N.Analysis.modifies) c.args.turn_limit c.args.graph.now c.loop-alloc.turns.items c.push.new.self.items c.loop-alloc.graph h c.in_ok-turn.turn
           c.loop-alloc.invariant.turns c.in_ok-turn.ensures.modified c.in_ok-turn.ensures.changed c.in_ok-push.ensures.items c.if-not-changed.false;

@@ -1,6 +1,7 @@
 -- Each rule is applied in the graph that the ones before it left, and counted.
 use Rattle.std.proofs.Common.{◌≡◌, ◌∙◌, ◌++◌, ◌∷◌, [], ℕ, List, Option, Some, false, Result, IfErr, refl, ap, sym, subst, inl, inr}
 use Rattle.std.specs.Prelude.{◌⊎◌, IsTrue, map, option_to_list}
+use Rattle.slotted_lists.proofs.Booleans.{unless-true}
 use Rattle.slotted_slots.specs.declared.error.Error.{Error}
 use Rattle.slotted_slots.specs.declared.error.Error.TheVariants.{Failed}
 use Rattle.slotted_slots.specs.Error.{IsShortage}
@@ -14,7 +15,7 @@ use Rattle.slotted_rules.specs.WrittenLaws.{apply-later, valid-later}
 use Rattle.slotted_patterns.specs.View.{tree_of}
 use Rattle.slotted_graph.proofs.Saying.{lowers-itself}
 use Rattle.slotted_rules.proofs.Lowering.{later-lowers}
-use Rattle.slotted_rules.proofs.AppliedRules.{applying-stops, not-failed, not-failed-so, ok-well, refused-one, shortage_of}
+use Rattle.slotted_rules.proofs.AppliedRules.{applying-stops, not-failed, ok-well, refused-one, shortage_of}
 use Rattle.slotted_rules.proofs.CountedRules.{applied-keys, counts-more, done-can, done-more, done-whole, none-done}
 use Rattle.slotted_rules.proofs.counting.count_all.Goals as goal
 
@@ -70,9 +71,9 @@ loop-rule-preserved g c =
       c.loop-rule.invariant.0 ++ k ∷ [],
       done-more (λ (p : List Values × ℕ). p.0) (UnitesRule form g.C.Cond.answers) (CanApplyRule form) c.args.rules.now c.loop-rule.rule-index c.rule-item.result c.loop-rule-test.true c.rule-item.is c.args.found.items c.loop-rule.left.items
           c.pop_front.new.self.items k (popped c.loop-rule.left.items c.pop_front.new.self.items c.pop_front.result c.in-Some.next c.pop_front.ensures.items c.in-Some.is) c.loop-rule.invariant.0 c.args.graph.now c.loop-rule.graph
-          c.loop-rule.invariant.1 (λ r found a b e can. apply-later (tree_of form r.left) found a b e can) h c.in_ok-count_one-in-Some.ensures.ok.1 (not-failed-so h.failed well c.count_one.ensures.extends) well,
+          c.loop-rule.invariant.1 (λ r found a b e can. apply-later (tree_of form r.left) found a b e can) h c.in_ok-count_one-in-Some.ensures.ok.1 (unless-true h.failed well c.count_one.ensures.extends) well,
       counts-more c.loop-rule.counts.items c.push.new.self.items c.loop-rule.invariant.0 k told c.loop-rule.invariant.2 c.in_ok-count_one-in-Some.ensures.ok.0 refl c.in_ok-push-in-Some.ensures.items,
-      not-failed-so h.failed well (later-lowers g.N.Analysis.codes g.N.Analysis.meaning g.met.N.Analysis.is_merge c.args.graph.now c.loop-rule.graph c.count_one.new.graph c.loop-rule.invariant.1.extends c.loop-rule.invariant.3 c.count_one.ensures.lowers),
+      unless-true h.failed well (later-lowers g.N.Analysis.codes g.N.Analysis.meaning g.met.N.Analysis.is_merge c.args.graph.now c.loop-rule.graph c.count_one.new.graph c.loop-rule.invariant.1.extends c.loop-rule.invariant.3 c.count_one.ensures.lowers),
     )
 
 pub returns-clause-ok : goal.returns-clause-ok

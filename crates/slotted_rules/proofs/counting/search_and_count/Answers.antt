@@ -1,5 +1,6 @@
 use Rattle.std.proofs.Common.{◌≡◌, Result, Ok, IfErr, sym, subst, inl, inr, false}
 use Rattle.std.specs.Prelude.{◌⊎◌, IsErrAnd, IsTrue}
+use Rattle.slotted_lists.proofs.Booleans.{unless-true}
 use Rattle.slotted_slots.specs.declared.error.Error.{Error}
 use Rattle.slotted_slots.specs.Error.{IsShortage}
 use Rattle.slotted_languages.proofs.HandedOn.{handed_err}
@@ -11,7 +12,7 @@ use Rattle.slotted_rules.specs.Applying.{AreRefusedBy, StopsApplying, StopsSearc
 use Rattle.slotted_rules.specs.Counting.{AppliesRule, BreaksRule, RefusesCounted, RefusesRule, SearchesRule}
 use Rattle.slotted_rules.specs.WrittenLaws.{valid-later}
 use Rattle.slotted_rules.proofs.Lowering.{later-lowers}
-use Rattle.slotted_rules.proofs.AppliedRules.{not-failed-so, ok-well}
+use Rattle.slotted_rules.proofs.AppliedRules.{ok-well}
 use Rattle.slotted_rules.proofs.counting.search_and_count.Goals as goal
 
 pub returns-in_err-found-clause-err : goal.returns-in_err-found-clause-err
@@ -22,7 +23,7 @@ returns-in_err-found-clause-err g c =
 
 -- a search without a refusal extends the graph
 searched : {A : Type 0} (g f : Graph) (r : Result A Error) (x : A) → r ≡ Ok x → (IsTrue f.failed → IsErrAnd r IsShortage) → IsTrue f.failed ⊎ ExtendsTo g f → ExtendsTo g f
-searched g f r x is fails extends = not-failed-so f.failed (ok-well IsShortage f.failed r x is fails) extends
+searched g f r x is fails extends = unless-true f.failed (ok-well IsShortage f.failed r x is fails) extends
 
 pub count_all-requires-clause-valid : goal.count_all-requires-clause-valid
 count_all-requires-clause-valid g c k d l = valid-later g.L.LanguageChildren.form c.args.graph.now c.search_all.new.graph _ (searched c.args.graph.now c.search_all.new.graph c.search_all.result c.in_ok-found.found c.in_ok-found.was c.search_all.ensures.fails c.search_all.ensures.extends) (c.requires.valid k d l)
@@ -54,13 +55,13 @@ pub returns-in_err-count_all-clause-lowers : goal.returns-in_err-count_all-claus
 returns-in_err-count_all-clause-lowers g c =
     let f = c.search_all.new.graph in
     let well : f.failed ≡ false = ok-well _ f.failed c.search_all.result c.in_ok-found.found c.in_ok-found.was c.search_all.ensures.fails in
-    later-lowers g.N.Analysis.codes g.N.Analysis.meaning g.met.N.Analysis.is_merge c.args.graph.now f c.count_all.new.graph (not-failed-so f.failed well c.search_all.ensures.extends) (not-failed-so f.failed well c.search_all.ensures.lowers) c.count_all.ensures.lowers
+    later-lowers g.N.Analysis.codes g.N.Analysis.meaning g.met.N.Analysis.is_merge c.args.graph.now f c.count_all.new.graph (unless-true f.failed well c.search_all.ensures.extends) (unless-true f.failed well c.search_all.ensures.lowers) c.count_all.ensures.lowers
 
 pub returns-clause-lowers : goal.returns-clause-lowers
 returns-clause-lowers g c =
     let f = c.search_all.new.graph in
     let well : f.failed ≡ false = ok-well _ f.failed c.search_all.result c.in_ok-found.found c.in_ok-found.was c.search_all.ensures.fails in
-    later-lowers g.N.Analysis.codes g.N.Analysis.meaning g.met.N.Analysis.is_merge c.args.graph.now f c.count_all.new.graph (not-failed-so f.failed well c.search_all.ensures.extends) (not-failed-so f.failed well c.search_all.ensures.lowers) c.count_all.ensures.lowers
+    later-lowers g.N.Analysis.codes g.N.Analysis.meaning g.met.N.Analysis.is_merge c.args.graph.now f c.count_all.new.graph (unless-true f.failed well c.search_all.ensures.extends) (unless-true f.failed well c.search_all.ensures.lowers) c.count_all.ensures.lowers
 
 pub returns-in_err-found-clause-refused : goal.returns-in_err-found-clause-refused
 returns-in_err-found-clause-refused g c =

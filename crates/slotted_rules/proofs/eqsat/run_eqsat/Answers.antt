@@ -1,11 +1,12 @@
 -- The report of the turns, between a first reading and a last one.
 use Rattle.std.proofs.Common.{◌≡◌, ◌∙◌, false, Result, Ok, Err, IfOk, ap, sym, subst, inr, IfErr}
 use Rattle.std.specs.Prelude.{IsErrAnd, ◌⊎◌, IsTrue}
+use Rattle.slotted_lists.proofs.Booleans.{unless-true}
 use Rattle.slotted_slots.specs.declared.error.Error.{Error}
 use Rattle.slotted_slots.specs.Error.{IsShortage}
 use Rattle.slotted_operations.specs.Graph.{Graph}
 use Rattle.slotted_graph.specs.Measure.{IsProgress}
-use Rattle.slotted_rules.proofs.AppliedRules.{not-failed-so, ok-well}
+use Rattle.slotted_rules.proofs.AppliedRules.{ok-well}
 use Rattle.slotted_rules.specs.Applying.{AreModified, RefusesRules}
 use Rattle.slotted_rules.specs.Eqsat.{HasBroken, HasEnded, HasRefusedEqsat}
 use Rattle.slotted_rules.specs.Seen.{stop_of}
@@ -23,7 +24,7 @@ returns-clause-ok g c =
     let well : c.take_turns-outcome.new.graph.failed ≡ false = ok-well _ c.take_turns-outcome.new.graph.failed c.take_turns-outcome.result c.in_ok-ended.ended was c.take_turns-outcome.ensures.fails in
     let left : c.failing.new.graph ≡ c.take_turns-outcome.new.graph = c.failing.ensures.other (λ short. subst (λ (r : Result _ Error). IsErrAnd r IsShortage) was short) in
     let still : c.failing.new.graph.failed ≡ false = ap (λ (x : Graph). x.failed) left ∙ well in
-    let measure : IsProgress c.failing.new.graph.image c.progress.result = not-failed-so c.failing.new.graph.failed still c.progress.ensures.measure in
+    let measure : IsProgress c.failing.new.graph.image c.progress.result = unless-true c.failing.new.graph.failed still c.progress.ensures.measure in
     reported-eqsat g.K.Clock.tells (RulesOnce g.Q.RewriteT.searches g.Q.RewriteT.applies (AreModified g.N.Analysis.codes g.N.Analysis.meaning g.N.Analysis.may_ask g.N.Analysis.modifies) c.args.rules.now) (Calls g.H.Hook.leaves) c.args.iter_limit c.args.time_limit_seconds
     (c.args.graph.now, c.args.hook.now) (c.failing.new.graph, c.take_turns-outcome.new.hook) c.args.clock.now c.now.new.self c.take_turns-outcome.new.clock c.now-2.new.self c.now.result c.now-2.result c.now.ensures
     c.in_ok-ended.ended.counted c.in_ok-ended.ended.reason

@@ -1,9 +1,10 @@
 -- Each turn goes on from where the ones before it led.
 use Rattle.std.proofs.Common.{◌≡◌, ◌+◌, ◌-◌, ◌<◌, suc, false, subst, inl, inr, arith}
 use Rattle.std.specs.Prelude.{option_map}
+use Rattle.slotted_lists.proofs.Booleans.{unless-true}
 use Rattle.slotted_graph.specs.Extension.{ExtendsTo}
 use Rattle.slotted_graph.proofs.Extending.{extends-then}
-use Rattle.slotted_rules.proofs.AppliedRules.{not-failed-so, ok-well}
+use Rattle.slotted_rules.proofs.AppliedRules.{ok-well}
 use Rattle.slotted_rules.specs.Applying.{AreModified, RefusesRules}
 use Rattle.slotted_rules.specs.Eqsat.{HasCounted, IsEqsatTurn, HasBroken}
 use Rattle.slotted_rules.specs.Seen.{stop_of}
@@ -50,7 +51,7 @@ more g c =
     c.loop-reason.counted (c.loop-reason.graph, c.loop-reason.hook) c.loop-reason.clock c.loop-reason.invariant.so_far (c.take_turn.new.graph, c.take_turn.new.hook) c.take_turn.new.clock
     (subst (λ o. IsEqsatTurn g.K.Clock.tells (RulesOnce g.Q.RewriteT.searches g.Q.RewriteT.applies (AreModified g.N.Analysis.codes g.N.Analysis.meaning g.N.Analysis.may_ask g.N.Analysis.modifies) c.args.rules.now) (Calls g.H.Hook.leaves) c.args.bounds.iterations c.args.bounds.seconds c.args.bounds.start c.loop-reason.counted
     (c.loop-reason.graph, c.loop-reason.hook) c.loop-reason.clock (c.take_turn.new.graph, c.take_turn.new.hook) c.take_turn.new.clock (option_map stop_of o)) c.in_default.is c.in_ok-reason.ensures.ok)
-    well (not-failed-so {P = ExtendsTo c.loop-reason.graph c.take_turn.new.graph} h.failed well c.take_turn.ensures.extends)
+    well (unless-true {P = ExtendsTo c.loop-reason.graph c.take_turn.new.graph} h.failed well c.take_turn.ensures.extends)
 
 pub overflow_add-counted : goal.overflow_add-counted
 overflow_add-counted g c =
@@ -74,7 +75,7 @@ loop-reason-preserved g c =
     record {
       so_far = subst (λ n. HasCounted g.K.Clock.tells (RulesOnce g.Q.RewriteT.searches g.Q.RewriteT.applies (AreModified g.N.Analysis.codes g.N.Analysis.meaning g.N.Analysis.may_ask g.N.Analysis.modifies) c.args.rules.now) (Calls g.H.Hook.leaves) c.args.bounds.iterations c.args.bounds.seconds c.args.bounds.start (c.args.graph.now, c.args.hook.now) c.args.clock.now
           n (c.take_turn.new.graph, c.take_turn.new.hook) c.take_turn.new.clock) e next.1;
-      lowers = not-failed-so h.failed well (later-lowers g.N.Analysis.codes g.N.Analysis.meaning g.met.N.Analysis.is_merge c.args.graph.now c.loop-reason.graph c.take_turn.new.graph c.loop-reason.invariant.so_far.extends c.loop-reason.invariant.lowers c.take_turn.ensures.lowers);
+      lowers = unless-true h.failed well (later-lowers g.N.Analysis.codes g.N.Analysis.meaning g.met.N.Analysis.is_merge c.args.graph.now c.loop-reason.graph c.take_turn.new.graph c.loop-reason.invariant.so_far.extends c.loop-reason.invariant.lowers c.take_turn.ensures.lowers);
     }
 
 pub returns-in_err-reason-clause-refused : goal.returns-in_err-reason-clause-refused

@@ -3,10 +3,10 @@ use Rattle.std.proofs.Common.{◌≡◌, ◌∙◌, ◌∷◌, ◌++◌, [], ap,
 use Rattle.std.specs.Prelude.{◌⊎◌, IfSome, IsSome, IsTrue, option_map}
 use Rattle.std.proofs.lemmas.Bool.{false≢true}
 use Rattle.std.proofs.lemmas.List.{length-map, map-append}
+use Rattle.slotted_lists.proofs.Lists.{length-zero as nothing}
 use Rattle.slotted_theory.specs.Term.{Term}
 use Rattle.slotted_nodes.specs.Form.{Form}
 use Rattle.slotted_patterns.proofs.PatternCopies.{mapped_last}
-use Rattle.slotted_patterns.proofs.PieceTexts.{nothing}
 use Rattle.slotted_terms.specs.Flat.{flat_of}
 use Rattle.slotted_terms.specs.TermPattern.{term_in}
 use Rattle.slotted_terms.specs.Valid.{IsValidTerm}

@@ -1,9 +1,10 @@
 -- No child has changed where none had, and the answer is the child.
 use Rattle.std.proofs.Common.{◌∙◌, refl, sym, subst, length}
 use Rattle.std.specs.Prelude.{◌<◌}
+use Rattle.slotted_lists.proofs.Booleans.{or-false as neither}
 use Rattle.slotted_nodes.specs.Form.{Form, children}
 use Rattle.slotted_rules.proofs.Frames.{next-read}
-use Rattle.slotted_rules.proofs.SameIds.{neither, not-false, same-ids}
+use Rattle.slotted_rules.proofs.SameIds.{not-false, same-ids}
 use Rattle.slotted_rules.proofs.substitution.take_answer.Goals as goal
 
 pub returns : goal.returns

@@ -1,4 +1,5 @@
 use Rattle.slotted_graph.proofs.Extending.{extends-takes, extends-then}
+use Rattle.slotted_graph.proofs.StatesLater.{graph-takes}
 use Rattle.std.proofs.Common.{inr}
 use Rattle.slotted_patterns.specs.View.{tree_of}
 use Rattle.slotted_proofs.specs.Equations.{to_applied}
@@ -6,7 +7,6 @@ use Rattle.slotted_rule_patterns.specs.Values.{values_of}
 use Rattle.slotted_classes.specs.Kept.{text_bytes}
 use Rattle.slotted_rules.proofs.Carrying.{carries-on, carries-takes, later-carries, written-carries}
 use Rattle.slotted_rules.proofs.FilledValues.{filled-given, full-values-later, full-values-valid}
-use Rattle.slotted_rules.proofs.Growing.{graph-takes}
 use Rattle.slotted_rules.proofs.Parts.{known-later}
 use Rattle.slotted_rules.proofs.UnitedInstances.{ok-united}
 use Rattle.slotted_rules.proofs.uniting.fill_and_unite.Goals as goal

@@ -2,10 +2,10 @@
 use Rattle.std.proofs.Common.{◌∙◌, ◌∷◌, [], ap, subst, arith, length, map, refl}
 use Rattle.std.specs.Prelude.{All, IfSome, None, Some, option_map}
 use Rattle.std.proofs.lemmas.List.{length-map, map-append}
+use Rattle.slotted_lists.proofs.Lists.{length-zero as nothing}
 use Rattle.slotted_patterns.specs.Subpatterns.{parts}
 use Rattle.slotted_patterns.specs.View.{tree_of}
 use Rattle.slotted_patterns.proofs.PatternCopies.{mapped_last}
-use Rattle.slotted_patterns.proofs.PieceTexts.{nothing}
 use Rattle.slotted_proofs.specs.Equations.{to_applied}
 use Rattle.slotted_rule_patterns.specs.Values.{values_of}
 use Rattle.slotted_graph.specs.ValidIds.{IsValidId}

@@ -1,9 +1,10 @@
 use Rattle.std.proofs.Common.{◌∙◌, inl, inr, refl}
 use Rattle.std.proofs.lemmas.Bool.{false≢true}
 use Rattle.std.proofs.lemmas.Result.{err_from_is_err_and}
+use Rattle.slotted_languages.proofs.HandedOn.{answered-well, other-refusal}
 use Rattle.slotted_graph.proofs.Extending.{extends-read, extends-then}
 use Rattle.slotted_sums.specs.Simplifying.{cost_refused, ran_out}
-use Rattle.slotted_sums.proofs.Simplified.{answered-well, other-refusal, refused-text, unfailed}
+use Rattle.slotted_sums.proofs.Simplified.{refused-text, unfailed}
 use Rattle.slotted_sums.proofs.simplifier.give.Goals as goal
 
 pub returns-in_err-term-clause-err : goal.returns-in_err-term-clause-err

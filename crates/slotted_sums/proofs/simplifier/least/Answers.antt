@@ -2,9 +2,10 @@ use Rattle.std.proofs.Common.{◌≡◌, Bool, true, false, inl, inr, subst}
 use Rattle.std.specs.Prelude.{string_bytes}
 use Rattle.std.proofs.lemmas.Result.{err_from_is_err_and}
 use Rattle.slotted_slots.specs.Table.{Table}
+use Rattle.slotted_languages.proofs.HandedOn.{answered-well}
 use Rattle.slotted_terms.specs.Shown.{term_text}
 use Rattle.slotted_graph.proofs.Extending.{extends-takes}
-use Rattle.slotted_sums.proofs.Simplified.{answered-well, least-refused}
+use Rattle.slotted_sums.proofs.Simplified.{least-refused}
 use Rattle.slotted_sums.proofs.simplifier.least.Goals as goal
 
 pub extract_by-requires : goal.extract_by-requires

@@ -1,17 +1,21 @@
 -- Each step is handed what the steps before it left, in a graph that extends the ones before.
 use Rattle.std.proofs.Common.{◌≡◌, false, inr, refl, subst, sym}
 use Rattle.std.proofs.lemmas.Result.{err_from_is_err_and}
+use Rattle.slotted_lists.proofs.Booleans.{unless-true}
 use Rattle.slotted_model.specs.Cost.{AtMost}
+use Rattle.slotted_languages.proofs.HandedOn.{other-refusal, run-refused}
 use Rattle.slotted_costs.specs.Costs.{costs_by, cost_of_term}
 use Rattle.slotted_proofs.specs.Equations.{to_applied}
 use Rattle.slotted_graph.specs.Extension.{ExtendsTo}
 use Rattle.slotted_graph.proofs.Extending.{extends-then, full-extends}
+use Rattle.slotted_graph.proofs.StatesLater.{later-extends, stands-later, still-valid}
 use Rattle.slotted_rules.specs.Applying.{AreModified}
-use Rattle.slotted_rules.proofs.AppliedRules.{not-failed-so, ok-well}
+use Rattle.slotted_rules.proofs.AppliedRules.{ok-well}
 use Rattle.slotted_rules.proofs.Modified.{modified-extends}
 use Rattle.slotted_rules.specs.Seen.{parts_of}
+use Rattle.slotted_rules.specs.WrittenLaws.{can-search}
 use Rattle.slotted_sums.specs.Simplifying.{not_found, not_given, not_run}
-use Rattle.slotted_sums.proofs.Simplified.{best-follows, best-no-larger, can-search, grown-then, other-refusal, run-refused, runs-rules, stands-later, still-valid, well-refused}
+use Rattle.slotted_sums.proofs.Simplified.{best-follows, best-no-larger, runs-rules, well-refused}
 use Rattle.slotted_sums.proofs.simplifier.simplify.Goals as goal
 
 pub returns-in_err-id-clause-err : goal.returns-in_err-id-clause-err
@@ -25,7 +29,7 @@ returns-in_err-id-clause-extends g c = c.give.ensures.extends
 pub run-requires : goal.run-requires
 run-requires g c =
     let gives = c.in_ok-id.ensures.ok.1 in
-    let first = not-failed-so c.give.new.graph.failed gives.sound c.give.ensures.extends in
+    let first = unless-true c.give.new.graph.failed gives.sound c.give.ensures.extends in
     can-search g.L.LanguageChildren.form c.args.runner.now.egraph c.give.new.graph c.args.rules.now gives.well first c.requires
 
 pub returns-in_err-run-clause-err : goal.returns-in_err-run-clause-err
@@ -38,8 +42,8 @@ returns-in_err-run-clause-err g c =
 pub returns-in_err-run-clause-extends : goal.returns-in_err-run-clause-extends
 returns-in_err-run-clause-extends g c =
     let gives = c.in_ok-id.ensures.ok.1 in
-    let first = not-failed-so c.give.new.graph.failed gives.sound c.give.ensures.extends in
-    grown-then c.args.runner.now.egraph c.give.new.graph c.run.new.self.egraph first c.run.ensures.extends
+    let first = unless-true c.give.new.graph.failed gives.sound c.give.ensures.extends in
+    later-extends c.args.runner.now.egraph c.give.new.graph c.run.new.self.egraph first c.run.ensures.extends
 
 pub least-requires : goal.least-requires
 least-requires g c =
@@ -56,18 +60,18 @@ pub returns-in_err-after-clause-extends : goal.returns-in_err-after-clause-exten
 returns-in_err-after-clause-extends g c =
     let gives = c.in_ok-id.ensures.ok.1 in
     let ran = c.run.new.self.egraph in
-    let first = not-failed-so c.give.new.graph.failed gives.sound c.give.ensures.extends in
+    let first = unless-true c.give.new.graph.failed gives.sound c.give.ensures.extends in
     let well : ran.failed ≡ false = ok-well _ ran.failed c.run.result c.in_ok-run.field-0 c.in_ok-run.was c.run.ensures.fails.0 in
-    let grows : ExtendsTo c.give.new.graph ran = not-failed-so ran.failed well c.run.ensures.extends in
+    let grows : ExtendsTo c.give.new.graph ran = unless-true ran.failed well c.run.ensures.extends in
     inr (extends-then c.args.runner.now.egraph ran c.least.new.graph (extends-then c.args.runner.now.egraph c.give.new.graph ran first grows) c.least.ensures.extends)
 
 pub returns-clause-extends : goal.returns-clause-extends
 returns-clause-extends g c =
     let gives = c.in_ok-id.ensures.ok.1 in
     let ran = c.run.new.self.egraph in
-    let first = not-failed-so c.give.new.graph.failed gives.sound c.give.ensures.extends in
+    let first = unless-true c.give.new.graph.failed gives.sound c.give.ensures.extends in
     let well : ran.failed ≡ false = ok-well _ ran.failed c.run.result c.in_ok-run.field-0 c.in_ok-run.was c.run.ensures.fails.0 in
-    let grows : ExtendsTo c.give.new.graph ran = not-failed-so ran.failed well c.run.ensures.extends in
+    let grows : ExtendsTo c.give.new.graph ran = unless-true ran.failed well c.run.ensures.extends in
     inr (extends-then c.args.runner.now.egraph ran c.least.new.graph (extends-then c.args.runner.now.egraph c.give.new.graph ran first grows) c.least.ensures.extends)
 
 pub returns-clause-ok : goal.returns-clause-ok
@@ -82,7 +86,7 @@ returns-clause-ok g c =
     let ran = parts_of c.run.new.self in
     let id = to_applied c.in_ok-id.id in
     let well : ran.graph.failed ≡ false = ok-well _ ran.graph.failed c.run.result c.in_ok-run.field-0 c.in_ok-run.was c.run.ensures.fails.0 in
-    let grows : ExtendsTo added ran.graph = not-failed-so ran.graph.failed well c.run.ensures.extends in
+    let grows : ExtendsTo added ran.graph = unless-true ran.graph.failed well c.run.ensures.extends in
     let full = full-extends added ran.graph id grows gives.full in
     let stands = stands-later added ran.graph id t grows gives.full gives.term in
     let best = c.in_ok-after.ensures.ok in

@@ -1,11 +1,12 @@
 -- Each node stands over the trees that were built last.
 use Rattle.std.proofs.Common.{◌≡◌, ℕ, ◌++◌, ◌∷◌, [], length, sym, subst, ap, ◌∙◌, arith, append_assoc}
 use Rattle.std.proofs.lemmas.List.{length-map}
+use Rattle.slotted_lists.proofs.Lists.{length-zero as nothing}
 use Rattle.slotted_nodes.specs.Form.{Form}
 use Rattle.slotted_patterns.specs.View.{tree_of}
-use Rattle.slotted_patterns.proofs.PieceTexts.{nothing}
+use Rattle.slotted_patterns.proofs.PatternCopies.{mapped_one}
 use Rattle.slotted_terms.specs.Flat.{closed, flat_of}
-use Rattle.slotted_terms.proofs.FlatTrees.{Fits, build, builds, fits, fits_end, flat_last, only_one}
+use Rattle.slotted_terms.proofs.FlatTrees.{Fits, build, builds, fits, fits_end, flat_last}
 use Rattle.slotted_terms.proofs.flat.assemble.Goals as goal
 
 pub close-requires : goal.close-requires
@@ -45,5 +46,5 @@ returns-clause-ok g c =
     let none = nothing c.loop-node.nodes.items (omega (arith, c.loop-node.nodes.ok.0, c.in_default.ensures.cases.0)) in
     let all : s ≡ flat_of form c.args.nodes.items = ap (λ ns. flat_of form ns ++ s) (sym none) ∙ c.loop-node.invariant.1 in
     λ p ground is.
-    only_one (tree_of form) c.loop-node.done.items c.pop-2.new.self.items c.pop-2.result c.in-Some-pop.pattern p c.pop-2.ensures.items c.in-Some-pop.is
+    mapped_one (tree_of form) c.loop-node.done.items c.pop-2.new.self.items c.pop-2.result c.in-Some-pop.pattern p c.pop-2.ensures.items c.in-Some-pop.is
     (c.loop-node.invariant.2 ∙ (ap build all ∙ builds (flat_of form c.args.nodes.items) p ground is))

@@ -1,8 +1,8 @@
 -- Each node stands over the trees that were built last.
 use Rattle.std.proofs.Common.{◌≡◌, ℕ, ◌++◌, ◌∷◌, [], length, map, sym, subst, ap, ◌∙◌, arith, append_assoc}
 use Rattle.std.proofs.lemmas.List.{length-map}
+use Rattle.slotted_lists.proofs.Lists.{length-zero as nothing}
 use Rattle.slotted_nodes.specs.Form.{Form}
-use Rattle.slotted_patterns.proofs.PieceTexts.{nothing}
 use Rattle.slotted_terms.specs.Flat.{closed_terms, flat_of}
 use Rattle.slotted_terms.specs.TermPattern.{term_in}
 use Rattle.slotted_terms.proofs.FlatTrees.{Fits, build, builds, fits, fits_end, flat_last, closed_terms_in, only_last}

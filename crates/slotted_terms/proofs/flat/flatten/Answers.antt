@@ -2,7 +2,7 @@
 use Rattle.std.proofs.Common.{◌≡◌, ◌++◌, ◌∷◌, [], map, length, option_to_list, refl, true, sym, subst, ap, ◌∙◌, arith, append-nil}
 use Rattle.std.specs.Prelude.{Some}
 use Rattle.std.proofs.lemmas.List.{map-append}
-use Rattle.slotted_patterns.proofs.PieceTexts.{nothing}
+use Rattle.slotted_lists.proofs.Lists.{length-zero as nothing}
 use Rattle.slotted_terms.specs.Flat.{flat_of}
 use Rattle.slotted_terms.proofs.SubtermSizes.{opened_smaller}
 use Rattle.slotted_terms.proofs.FlatTrees.{Continues, continues_start, continues_step}

@@ -2,9 +2,11 @@ use Rattle.std.proofs.Common.{◌≡◌, ◌<◌, ◌∙◌, length, sym, subst,
 use Rattle.std.specs.Prelude.{Contains}
 use Rattle.std.proofs.lemmas.Bool.{false≢true}
 use Rattle.std.proofs.lemmas.Option.{get_or_from_slice_get}
+use Rattle.slotted_lists.proofs.Members.{In, In-Contains, Contains-In}
+use Rattle.slotted_lists.proofs.Maps.{length-values}
 use Rattle.slotted_slots.specs.Maps.{keys, values}
-use Rattle.slotted_model.proofs.Data.Members.{In, In-Contains, Contains-In}
-use Rattle.slotted_classes.proofs.NameMaps.{In-at, at_In, In-key, key-In, length-values, below_next}
+use Rattle.slotted_languages.proofs.Counting.{In-value}
+use Rattle.slotted_classes.proofs.NameMaps.{In-at, at_In, key-In, below_next}
 use Rattle.slotted_unions.proofs.dropping.value_without_key.Goals as goal
 
 pub returns-then-not-contains_key-clause-some : goal.returns-then-not-contains_key-clause-some
@@ -15,7 +17,7 @@ returns-then-not-contains_key-clause-some c =
     let e : slice_index_or xs c.loop-i.i 0 ≡ slot = get_or_from_slice_get xs c.loop-i.i slot 0 c.value_at-slot.ensures in (
       Contains-In xs slot (subst (λ x. In x xs) e (In-at xs c.loop-i.i 0 l)),
       λ h. false≢true
-          (sym c.if-not-contains_key.true ∙ (c.contains_key.ensures ∙ In-key c.args.map.now slot (In-Contains (keys c.args.map.now) slot h))),
+          (sym c.if-not-contains_key.true ∙ (c.contains_key.ensures ∙ In-value c.args.map.now slot (In-Contains (keys c.args.map.now) slot h))),
     )
 
 pub loop-i-preserved : goal.loop-i-preserved

@@ -1,6 +1,6 @@
 use Rattle.std.proofs.Common.{◌↔◌, ℕ, sym, subst}
 use Rattle.std.specs.Prelude.{Contains}
-use Rattle.slotted_theory.proofs.Lists.{Contains-map}
+use Rattle.slotted_lists.proofs.Contained.{Contains-map}
 use Rattle.slotted_model.specs.Applied.{Applied, values}
 use Rattle.slotted_classes.specs.Kept.{symmetry_entry}
 use Rattle.slotted_classes.specs.StateOf.{symmetry_of_entry}

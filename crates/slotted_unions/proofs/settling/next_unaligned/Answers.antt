@@ -1,6 +1,6 @@
 use Rattle.std.proofs.Common.{◌∙◌, refl, sym, arith}
 use Rattle.std.proofs.lemmas.Bool.{false≢true}
-use Rattle.slotted_theory.proofs.Lists.{Contains-map}
+use Rattle.slotted_lists.proofs.Contained.{Contains-map}
 use Rattle.slotted_model.specs.Rest.{IsAligned}
 use Rattle.slotted_classes.specs.Kept.{symmetry_entry}
 use Rattle.slotted_classes.specs.StateOf.{state_of, symmetry_of_entry}

@@ -1,8 +1,9 @@
 use Rattle.std.proofs.lemmas.Result.{IfErr-weaker, err_from_is_err_and}
+use Rattle.slotted_lists.proofs.Results.{IfOk-with}
 use Rattle.slotted_workspace.specs.Asked.{ChangesGraph, OfBoth, RefusesBoth}
 use Rattle.slotted_workspace.specs.Decided.{DecideRefused}
 use Rattle.slotted_uses.specs.Questions.{AnswersQuestion, Judges, QuestionRefused, proof_refused, right_refused, run_refused}
-use Rattle.slotted_uses.proofs.Standing.{answered, both-added, ok-with}
+use Rattle.slotted_uses.proofs.Standing.{answered, both-added}
 use Rattle.slotted_uses.proofs.question.ask.Goals as goal
 
 pub returns-in_err-second-clause-err : goal.returns-in_err-second-clause-err
@@ -31,7 +32,7 @@ returns-clause-ok g c =
     let first = c.in_ok-first.first in
     let second = c.in_ok-second.second in
     let run = c.in_ok-report.report in
-    ok-with c.judge.result (ChangesGraph ran v) (λ x. OfBoth ran first second (λ t u. Judges written ran.graph v.graph run.stop t u x))
+    IfOk-with c.judge.result (ChangesGraph ran v) (λ x. OfBoth ran first second (λ t u. Judges written ran.graph v.graph run.stop t u x))
     (AnswersQuestion form read written c.args.limits s v c.args.left.now c.args.right.now)
     (λ x changes judged. answered read s c.add.new.self both c.args.left.now c.args.right.now first second c.in_ok-first.ensures.ok c.in_ok-second.ensures.ok
     form written c.args.limits ran v run x c.in_ok-report.ensures.ok c.in_ok-report.ensures.rest judged changes)

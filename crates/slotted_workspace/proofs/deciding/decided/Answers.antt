@@ -1,4 +1,5 @@
-use Rattle.slotted_workspace.proofs.Decisions.{decide-refused, decided-ok, goes-extends}
+use Rattle.slotted_decided.proofs.DecidedTurns.{goes-extends}
+use Rattle.slotted_workspace.proofs.Decisions.{decide-refused, decided-ok}
 use Rattle.slotted_workspace.proofs.deciding.decided.Goals as goal
 
 pub returns-clause-ok : goal.returns-clause-ok

@@ -1,4 +1,5 @@
-use Rattle.slotted_workspace.proofs.Decisions.{decide-refused, goes-extends, judged-ok}
+use Rattle.slotted_decided.proofs.DecidedTurns.{goes-extends}
+use Rattle.slotted_workspace.proofs.Decisions.{decide-refused, judged-ok}
 use Rattle.slotted_workspace.proofs.Saying.{can-ask}
 use Rattle.slotted_workspace.proofs.deciding.judged.Goals as goal
 

@@ -2,9 +2,10 @@ use Rattle.std.specs.Prelude.{IsTrue}
 use Rattle.std.proofs.Common.{Ok, refl}
 use Rattle.std.proofs.lemmas.Bool.{false≢true}
 use Rattle.std.proofs.lemmas.Result.{err_from_is_err_and}
+use Rattle.slotted_lists.proofs.Results.{OnOk-always}
 use Rattle.slotted_commands.proofs.Explaining.{proves}
 use Rattle.slotted_commands.proofs.Steps.{sound_graph}
-use Rattle.slotted_workspace.proofs.Explanations.{chain-not_made, chain-refused, chains, extends-explained, extends-printed, on-ok}
+use Rattle.slotted_workspace.proofs.Explanations.{chain-not_made, chain-refused, chains, extends-explained, extends-printed}
 use Rattle.slotted_workspace.proofs.Saying.{kept-answered}
 use Rattle.slotted_workspace.proofs.explaining.marked_chain.Goals as goal
 
@@ -30,7 +31,7 @@ returns-clause-ok g c =
     let p = c.in_ok-proof.proof in
     let sound : ¬ IsTrue between.failed = λ f. false≢true (e.fails.0 f).0 in
     let found = proves graph between left.term right.term e.more e.takes e.adds e.filed e.kept p sound e.explains in
-    on-ok c.to_marked_string.result
+    OnOk-always c.to_marked_string.result
     (chains g.L.Printable.written graph between c.to_marked_string.new.graph left right p (sound_graph graph.failed (Ok p) p refl e.failed.1) sound found (kept-answered graph p e.failed c.requires.left) (kept-answered graph p e.failed c.requires.right)
     c.is_failed.ensures.rests c.to_marked_string.ensures.takes c.to_marked_string.ensures.count)
 

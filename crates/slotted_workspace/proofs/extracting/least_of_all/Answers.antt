@@ -4,10 +4,10 @@ use Rattle.std.proofs.lemmas.Result.{err_from_is_err_and}
 use Rattle.slotted_slots.specs.Table.{Table}
 use Rattle.slotted_terms.specs.Shown.{term_text}
 use Rattle.slotted_costs.specs.Costs.{costs_by}
+use Rattle.slotted_decided.proofs.DecidedTurns.{goes-extends}
 use Rattle.slotted_commands.proofs.Steps.{sound_graph}
 use Rattle.slotted_workspace.specs.Decided.{ExtractDecidedRefused}
 use Rattle.slotted_workspace.proofs.DecidedExtractions.{extraction-refused, extracts-decided, text-refused}
-use Rattle.slotted_workspace.proofs.Decisions.{goes-extends}
 use Rattle.slotted_workspace.proofs.Saying.{can-ask, kept-answered}
 use Rattle.slotted_workspace.proofs.extracting.least_of_all.Goals as goal
 

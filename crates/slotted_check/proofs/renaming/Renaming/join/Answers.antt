@@ -1,8 +1,9 @@
 use Rattle.std.proofs.Common.{◌≡◌, sym, ◌∙◌, subst, true≢false, arith}
 use Rattle.std.proofs.lemmas.Grind.{common_steps}
 use Rattle.std.specs.Prelude.{Some, None}
+use Rattle.slotted_lists.proofs.Maps.{value_of-added}
 use Rattle.slotted_theory.specs.FiniteMaps.{value_of, HasValue, IsInjectiveMap}
-use Rattle.slotted_check.proofs.Pairs.{value_of-kept, value_of-added, IsInjectiveMap-added}
+use Rattle.slotted_check.proofs.Pairs.{value_of-kept, IsInjectiveMap-added}
 use Rattle.slotted_check.proofs.renaming.Renaming.join.Goals as goal
 
 pub invariant_of-self-2 : goal.invariant_of-self-2

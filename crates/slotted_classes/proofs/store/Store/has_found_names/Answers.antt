@@ -1,11 +1,12 @@
 use Rattle.std.proofs.Common.{◌<◌, ◌∙◌, length, ap, sym, arith, refl}
 use Rattle.std.proofs.lemmas.Bool.{false≢true}
+use Rattle.slotted_lists.proofs.Maps.{length-values}
 use Rattle.slotted_slots.specs.Maps.{values}
 use Rattle.slotted_model.specs.Applied.{Applied}
 use Rattle.slotted_proofs.specs.Equations.{to_applied}
 use Rattle.slotted_classes.specs.Finding.{HasFoundName}
 use Rattle.slotted_classes.proofs.Chasing.{all-names, each-name}
-use Rattle.slotted_classes.proofs.NameMaps.{length-values, below_next}
+use Rattle.slotted_classes.proofs.NameMaps.{below_next}
 use Rattle.slotted_classes.proofs.store.Store.has_found_names.Goals as goal
 
 pub loop-i-preserved : goal.loop-i-preserved

@@ -1,5 +1,6 @@
 use Rattle.std.proofs.Common.{◌≡◌, ◌<◌, ◌∙◌, length, ap, sym, arith, refl}
 use Rattle.std.specs.Cmp.{unsigned_Decides}
+use Rattle.slotted_lists.proofs.Maps.{length-values}
 use Rattle.slotted_theory.specs.FiniteMaps.{value_of}
 use Rattle.slotted_slots.specs.Maps.{values}
 use Rattle.slotted_model.specs.Applied.{Applied}
@@ -7,7 +8,7 @@ use Rattle.slotted_model.specs.Find.{find}
 use Rattle.slotted_classes.specs.Kept.{entries_of}
 use Rattle.slotted_proofs.specs.Equations.{to_applied}
 use Rattle.slotted_classes.proofs.Chasing.{same-names_at, option_same}
-use Rattle.slotted_classes.proofs.NameMaps.{length-values, below_next}
+use Rattle.slotted_classes.proofs.NameMaps.{below_next}
 use Rattle.slotted_classes.proofs.store.Store.have_same_names.Goals as goal
 
 pub loop-i-preserved : goal.loop-i-preserved

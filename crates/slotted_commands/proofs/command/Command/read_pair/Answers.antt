@@ -1,7 +1,8 @@
 use Rattle.std.proofs.Common.{ap, sym, ◌∙◌}
 use Rattle.std.specs.Prelude.{codes}
+use Rattle.slotted_lists.proofs.Splitting.{rest_behind-none, parts_around-none, split}
 use Rattle.slotted_commands.specs.Commands.{pair_by, rest_behind, of_two, compares, unites, explains}
-use Rattle.slotted_commands.proofs.Splitting.{stripped, rest_behind-none, parts_around-none, split, pair_line}
+use Rattle.slotted_commands.proofs.Splitting.{stripped, pair_line}
 use Rattle.slotted_commands.proofs.command.Command.read_pair.Goals as goal
 
 pub returns-in-Some-split_once : goal.returns-in-Some-split_once

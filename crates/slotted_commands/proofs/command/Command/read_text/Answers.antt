@@ -1,7 +1,8 @@
 use Rattle.std.proofs.Common.{ap, sym, ◌∙◌}
 use Rattle.std.specs.Prelude.{codes}
+use Rattle.slotted_lists.proofs.Splitting.{rest_behind-none}
 use Rattle.slotted_commands.specs.Commands.{asked_of_pair, one_or, rest_behind}
-use Rattle.slotted_commands.proofs.Splitting.{rest_behind-none, stripped, text_line}
+use Rattle.slotted_commands.proofs.Splitting.{stripped, text_line}
 use Rattle.slotted_commands.proofs.command.Command.read_text.Goals as goal
 
 pub returns-in-Some : goal.returns-in-Some

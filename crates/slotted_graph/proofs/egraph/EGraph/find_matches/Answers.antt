@@ -11,9 +11,10 @@ use Rattle.slotted_operations.proofs.Graphs.AtRest.{at-rest}
 use Rattle.slotted_patterns.specs.View.{tree_of}
 use Rattle.slotted_patterns.specs.Known.{HasKnownNames}
 use Rattle.slotted_matching.specs.Found.{IsFound, RunsOutFor, TakesFor}
+use Rattle.slotted_matching.proofs.Finding.{ok-mapped}
 use Rattle.slotted_graph.specs.Matching.{FindsAll}
 use Rattle.slotted_graph.proofs.Matching.{found-each, found-looked_up}
-use Rattle.slotted_graph.proofs.Finds.{found-of, valid-of, each-valid, each-within, wide-row, takes-in, runs_out-in, ok-with, ok-three_of}
+use Rattle.slotted_graph.proofs.Finds.{found-of, valid-of, each-valid, each-within, wide-row, takes-in, runs_out-in, ok-three_of}
 use Rattle.slotted_graph.proofs.Insides.{given, inside-of}
 use Rattle.slotted_graph.proofs.egraph.EGraph.find_matches.Goals as goal
 
@@ -59,7 +60,7 @@ returns-clause-finds g c =
     let r = c.self.inside.nodes in
     let h : Graph = graph_of c.self.inside.failed c.find_matches.new.table k (rows_in r.filed) (part_by g.N.Analysis.codes c.self.inside.analysis c.self.inside.rounds c.self.inside.data) in
     let e = c.find_matches.ensures in
-    ok-with c.find_matches.result e.finds (λ found finds p at. found-of h k r inside.good inside.rests more refl refl p found (finds p at))
+    ok-mapped c.find_matches.result e.finds (λ found finds p at. found-of h k r inside.good inside.rests more refl refl p found (finds p at))
 
 pub returns-clause-valid : goal.returns-clause-valid
 returns-clause-valid g c =
@@ -70,7 +71,7 @@ returns-clause-valid g c =
     let r = c.self.inside.nodes in
     let h : Graph = graph_of c.self.inside.failed c.find_matches.new.table k (rows_in r.filed) (part_by g.N.Analysis.codes c.self.inside.analysis c.self.inside.rounds c.self.inside.data) in
     let e = c.find_matches.ensures in
-    ok-with c.find_matches.result e.valid (λ found valid. valid-of h k r inside.good inside.rests more refl refl tree found valid)
+    ok-mapped c.find_matches.result e.valid (λ found valid. valid-of h k r inside.good inside.rests more refl refl tree found valid)
 
 pub returns-clause-looked_up : goal.returns-clause-looked_up
 returns-clause-looked_up g c =

@@ -17,9 +17,10 @@ use Rattle.slotted_operations.specs.ValidIds.{IsValidId}
 use Rattle.slotted_operations.proofs.Graphs.Images.{class_found-is}
 use Rattle.slotted_operations.proofs.Ids.ValidIds.{findable-within, of-valid}
 use Rattle.slotted_matching.specs.Found.{IsFoundAt, RunsOutFor, TakesFor}
+use Rattle.slotted_matching.proofs.Finding.{ok-mapped}
 use Rattle.slotted_graph.specs.Matching.{FindsAllAt}
 use Rattle.slotted_graph.proofs.Matching.{live-class, readings-each, readings-looked_up}
-use Rattle.slotted_graph.proofs.Finds.{found-at_of, valid-of, each-valid, each-within, wide-row, takes-in, runs_out-in, ok-with, ok-three_of}
+use Rattle.slotted_graph.proofs.Finds.{found-at_of, valid-of, each-valid, each-within, wide-row, takes-in, runs_out-in, ok-three_of}
 use Rattle.slotted_graph.proofs.Insides.{inside-of, given}
 use Rattle.slotted_graph.proofs.egraph.EGraph.find_matches_in.Goals as goal
 
@@ -85,7 +86,7 @@ returns-clause-finds g c =
     let within = findable-within c.self.inside.store a (of-valid c.self.inside.store inside.good graph inside.image a valid) in
     let d = class_found (image_of k) c.args.id.now.id.0 in
     let same : c.find_class.result ≡ d = c.find_class.ensures.class ∙ sym (class_found-is k c.args.id.now.id.0 within) in
-    ok-with c.find_matches_at.result e.finds (λ found finds p at. found-at_of h k r inside.good inside.rests more refl refl c.find_class.result d same p found (finds p at))
+    ok-mapped c.find_matches_at.result e.finds (λ found finds p at. found-at_of h k r inside.good inside.rests more refl refl c.find_class.result d same p found (finds p at))
 
 pub returns-clause-valid : goal.returns-clause-valid
 returns-clause-valid g c =
@@ -96,7 +97,7 @@ returns-clause-valid g c =
     let r = c.self.inside.nodes in
     let h : Graph = graph_of c.self.inside.failed c.find_matches_at.new.table k (rows_in r.filed) (part_by g.N.Analysis.codes c.self.inside.analysis c.self.inside.rounds c.self.inside.data) in
     let e = c.find_matches_at.ensures in
-    ok-with c.find_matches_at.result e.valid (λ found valid. valid-of h k r inside.good inside.rests more refl refl tree found valid)
+    ok-mapped c.find_matches_at.result e.valid (λ found valid. valid-of h k r inside.good inside.rests more refl refl tree found valid)
 
 pub returns-clause-looked_up : goal.returns-clause-looked_up
 returns-clause-looked_up g c =

@@ -2,8 +2,8 @@
 use Rattle.std.proofs.Common.{◌≡◌, ◌∙◌, ap, subst, sym, inl, inr}
 use Rattle.std.proofs.lemmas.Bool.{false≢true}
 use Rattle.std.proofs.lemmas.Result.{IfOk-weaker}
+use Rattle.slotted_lists.proofs.Results.{IfOk-both, IfOk-three}
 use Rattle.slotted_slots.specs.Table.{Table, AllKnown}
-use Rattle.slotted_languages.proofs.TakenNames.{both_ok}
 use Rattle.slotted_model.specs.Applied.{values}
 use Rattle.slotted_proofs.specs.Equations.{to_applied}
 use Rattle.slotted_lookup.specs.Filling.{FillsId, filled_id, missing, with_fresh}
@@ -12,7 +12,6 @@ use Rattle.slotted_operations.specs.Graph.{Graph, IsFullId}
 use Rattle.slotted_operations.specs.Syn.{FillsFresh}
 use Rattle.slotted_operations.proofs.Ids.FilledNames.{filled-full, fills-fresh}
 use Rattle.slotted_operations.proofs.Graphs.FreshSlots.{fresh_slots-more}
-use Rattle.slotted_operations.proofs.Ids.NodesOfIds.{ok-three}
 use Rattle.slotted_operations.proofs.Ids.ValidIds.{of-valid}
 use Rattle.slotted_graph.proofs.Insides.{inside-of}
 use Rattle.slotted_graph.proofs.egraph.EGraph.full_id.Goals as goal
@@ -49,7 +48,7 @@ returns-clause-id g c =
       | inl e ↦ absurd (false≢true (sym c.if-self.false ∙ (ap (λ (x : Graph). x.failed) c.self.view_is ∙ e)))
       | inr v ↦
           let known : AllKnown t (values a.1) = subst (λ (x : Table). AllKnown x (values a.1)) (sym inside.table) v.known in
-          both_ok c.fill_id.result (λ b. FillsId core t a (to_applied b)) (λ b. AllKnown t (values a.1) → AllKnown c.fill_id.new.table (values (to_applied b).1)) (λ b. IsFullId _ (to_applied b))
+          IfOk-both c.fill_id.result (λ b. FillsId core t a (to_applied b)) (λ b. AllKnown t (values a.1) → AllKnown c.fill_id.new.table (values (to_applied b).1)) (λ b. IsFullId _ (to_applied b))
           (λ b fills k. record { full = filled-full core t a (to_applied b) known fills; known = k known }) c.fill_id.ensures.fills c.fill_id.ensures.known
     ]
 
@@ -67,7 +66,7 @@ returns-clause-fills g c =
           let known : AllKnown t (values a.1) = subst (λ (x : Table). AllKnown x (values a.1)) (sym inside.table) v.known in
           IfOk-weaker c.fill_id.result (λ b. FillsFresh (image_of core) t u a (to_applied b)) _
           (λ b fresh. subst (λ (y : Graph). FillsFresh y.image y.table u a (to_applied b)) c.self.view_is fresh)
-          (ok-three c.fill_id.result (λ b. FillsId core t a (to_applied b)) (λ b. to_applied b ≡ filled_id core t.fresh a) (λ b. u ≡ with_fresh (missing core a) t)
+          (IfOk-three c.fill_id.result (λ b. FillsId core t a (to_applied b)) (λ b. to_applied b ≡ filled_id core t.fresh a) (λ b. u ≡ with_fresh (missing core a) t)
           (λ b. FillsFresh (image_of core) t u a (to_applied b)) (λ b fills is made. fills-fresh core t a (to_applied b) known fills u u is made (λ s k. k))
           c.fill_id.ensures.fills c.fill_id.ensures.id c.fill_id.ensures.made)
     ]

@@ -1,5 +1,5 @@
 use Rattle.std.proofs.Common.{subst, arith}
-use Rattle.slotted_theory.proofs.Lists.{contains_head}
+use Rattle.slotted_lists.proofs.Contained.{contains_head}
 use Rattle.slotted_hashcons.specs.Waiting.{HasFlags}
 use Rattle.slotted_hashcons.proofs.Flags.{flags-popped, waiting-within}
 use Rattle.slotted_hashcons.proofs.worklist.Worklist.pop.Goals as goal

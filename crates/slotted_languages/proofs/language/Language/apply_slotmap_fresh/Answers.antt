@@ -1,13 +1,14 @@
 -- The map that was filled knows each free slot.
 use Rattle.std.proofs.Common.{◌++◌, ◌∙◌, inl, inr, length, rules, subst}
 use Rattle.std.proofs.lemmas.Result.{IfOk-weaker}
+use Rattle.slotted_lists.proofs.Results.{IfOk-both}
 use Rattle.slotted_languages.specs.Fresh.{IsFilled, RunsOut, at_hand}
 use Rattle.slotted_languages.specs.NodeTerm.{free_names_of}
 use Rattle.slotted_slots.specs.Ascending.{IsAscending}
 use Rattle.slotted_slots.specs.Maps.{keys, values}
 use Rattle.slotted_slots.specs.Table.{TakesAtMost}
 use Rattle.slotted_languages.proofs.Counting.{filled_runs_out, filled_takes, filling_runs_out, filling_takes}
-use Rattle.slotted_languages.proofs.TakenNames.{both_ok, filled_taken}
+use Rattle.slotted_languages.proofs.TakenNames.{filled_taken}
 use Rattle.slotted_languages.proofs.Fills.{knows_each, renamed_fresh}
 use Rattle.slotted_languages.proofs.PutIn.{filled_put}
 use Rattle.slotted_languages.proofs.HandedOn.{handed_memory, handed_short, handed_slots, no_slots, not_large, slots_handed, small_of, takes_nothing}
@@ -30,7 +31,7 @@ returns-clause-taken g c =
     let u = c.fill_names.new.table in
     let d : IsFilled t u f.names wanted m names = subst (λ n. IsFilled t u f.names wanted n names) c.in_ok-names.ensures.ok c.in_ok-fill_names.ensures.ok in
     let up : IsAscending (keys names) = subst (λ n. IsAscending (keys n)) c.names.view_is c.names.invariant in
-    both_ok c.apply_slotmap.result _ _ _
+    IfOk-both c.apply_slotmap.result _ _ _
     (λ r e k. filled_taken t c.fill_names.new.table c.apply_slotmap.new.table m names wanted f (form r) (fits c.args.self.now) (fits r) up d c.in_ok-wanted.ensures.members e c.in_ok-fill_names.ensures.taken k)
     c.apply_slotmap.ensures.renamed c.apply_slotmap.ensures.taken
 

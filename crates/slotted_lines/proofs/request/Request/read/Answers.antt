@@ -1,7 +1,8 @@
 use Rattle.std.proofs.Common.{sym, ◌∙◌}
 use Rattle.std.specs.Prelude.{codes}
+use Rattle.slotted_lists.proofs.Splitting.{rest_behind-none}
 use Rattle.slotted_commands.specs.Commands.{command_of, rest_behind}
-use Rattle.slotted_commands.proofs.Splitting.{rest_behind-none, stripped}
+use Rattle.slotted_commands.proofs.Splitting.{stripped}
 use Rattle.slotted_lines.specs.Requests.{plain, rule_or_run}
 use Rattle.slotted_lines.proofs.Lines.{line_is}
 use Rattle.slotted_lines.proofs.request.Request.read.Goals as goal

@@ -1,6 +1,6 @@
 use Rattle.std.proofs.Common.{ap, sym, ◌∙◌}
 use Rattle.std.specs.Prelude.{codes}
-use Rattle.slotted_commands.proofs.Splitting.{parts_around-none, split}
+use Rattle.slotted_lists.proofs.Splitting.{parts_around-none, split}
 use Rattle.slotted_lines.specs.Requests.{rule_by, rule_of_parts}
 use Rattle.slotted_lines.proofs.Lines.{rule_is}
 use Rattle.slotted_lines.proofs.request.Request.read_rule.Goals as goal

@@ -1,11 +1,11 @@
 -- Each pattern is copied over the copies of its parts.
 use Rattle.std.proofs.Common.{◌≡◌, ◌++◌, ◌∷◌, [], length, map, sym, subst, ap, ◌∙◌, arith}
 use Rattle.std.proofs.lemmas.List.{length-map, map-append}
+use Rattle.slotted_lists.proofs.Lists.{length-zero as nothing}
 use Rattle.slotted_patterns.specs.Subpatterns.{before_parts}
 use Rattle.slotted_patterns.specs.View.{tree_of}
 use Rattle.slotted_patterns.proofs.Folds.{Folds, folds-end, folds-parts, folds-step}
 use Rattle.slotted_patterns.proofs.PatternCopies.{mapped_last, mapped_one}
-use Rattle.slotted_patterns.proofs.PieceTexts.{nothing}
 use Rattle.slotted_patterns.proofs.pattern.Pattern.copy.Goals as goal
 
 pub copy_over-requires : goal.copy_over-requires

@@ -2,11 +2,12 @@
 use lib.Utf8.{encode}
 use Rattle.std.proofs.Common.{◌≡◌, ◌+◌, [], ◌∷◌, ◌++◌, map, reverse, drop, length, get_or, codes, refl, sym, subst, ap, ◌∙◌, arith, append-nil}
 use Rattle.std.proofs.lemmas.List.{length-map, length-reverse, reverse-reverse}
+use Rattle.slotted_lists.proofs.Lists.{length-zero as nothing}
 use Rattle.slotted_slots.specs.Syntax.{element_of}
 use Rattle.slotted_patterns.specs.Pieces.{pattern_weights, texts, weights}
 use Rattle.slotted_patterns.specs.Shown.{part_text, part_texts, pattern_text, spaced}
 use Rattle.slotted_patterns.proofs.NodeTexts.{part_texts-step}
-use Rattle.slotted_patterns.proofs.PieceTexts.{two_more, two_weigh, nothing, reverse_last, length_last}
+use Rattle.slotted_patterns.proofs.PieceTexts.{two_more, two_weigh, reverse_last, length_last}
 use Rattle.slotted_patterns.proofs.pattern.printing.pieces_of.Goals as goal
 
 pub loop-element-init : goal.loop-element-init

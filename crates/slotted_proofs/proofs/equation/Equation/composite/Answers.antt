@@ -3,11 +3,12 @@ use Rattle.slotted_model.specs.Applied.{keys}
 use Rattle.slotted_model.specs.Correspondence.{IsFullMap, IsPartialInjection, same_names, turned, composite}
 use Rattle.slotted_proofs.specs.Equations.{IsWritten}
 use Rattle.slotted_proofs.proofs.Bridges.{slots-once, own_full}
-use Rattle.slotted_proofs.proofs.NumberedSides.{middle-partial, turned-middle, length-keys}
+use Rattle.slotted_proofs.proofs.NumberedSides.{middle-partial, turned-middle}
 use Rattle.slotted_proofs.proofs.Refusals.{memory_short, slots_left, too_many, few_many}
 use Rattle.slotted_slots.specs.Table.{slot_limit}
 use Rattle.std.proofs.lemmas.Result.{err_from_is_err_and, IfOk-from_err}
 use Rattle.std.specs.Prelude.{Err}
+use Rattle.slotted_lists.proofs.Maps.{length-keys}
 use Rattle.slotted_proofs.proofs.equation.Equation.composite.Goals as goal
 
 pub number_sides-requires-clause-left_once : goal.number_sides-requires-clause-left_once

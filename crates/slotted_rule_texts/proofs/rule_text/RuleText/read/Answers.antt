@@ -1,9 +1,9 @@
 use Rattle.std.proofs.Common.{ap, sym, ◌∙◌, subst, IfOk, IfErr}
 use Rattle.std.specs.Prelude.{codes}
+use Rattle.slotted_lists.proofs.Splitting.{parts_around-none, split}
 use Rattle.slotted_rule_texts.specs.Asked.{RuleAsked, rule_of_parts}
 use Rattle.slotted_rule_texts.specs.Told.{Tells, IsRefused}
 use Rattle.slotted_rule_texts.proofs.Asking.{rule_is}
-use Rattle.slotted_rule_texts.proofs.Splitting.{parts_around-none, split}
 use Rattle.slotted_rule_texts.proofs.rule_text.RuleText.read.Goals as goal
 
 pub returns-in-Some-clause-ok : goal.returns-in-Some-clause-ok

@@ -1,7 +1,8 @@
 -- The texts are read one after the other.
-use Rattle.std.proofs.Common.{◌≡◌, ◌∙◌, Result, Ok, Err, IfOk, ap, sym, subst}
+use Rattle.std.proofs.Common.{◌≡◌, ◌∙◌, Ok, ap, sym, subst}
 use Rattle.std.specs.Prelude.{None, false}
 use Rattle.std.proofs.lemmas.Result.{IfOk-weaker, IfErr-weaker}
+use Rattle.slotted_lists.proofs.Results.{IfOk-both, IfOk-three}
 use Rattle.slotted_languages.proofs.HandedOn.{handed_err}
 use Rattle.slotted_patterns.specs.Known.{HasKnownNames}
 use Rattle.slotted_patterns.specs.View.{tree_of}
@@ -10,14 +11,6 @@ use Rattle.slotted_rules.specs.Reading.{first_unread}
 use Rattle.slotted_rules.specs.Written.{AreRefused, CanBeSearched, IsRule, IsRefusedRule, ReadsAs, right_refused, rule_refused}
 use Rattle.slotted_graph.proofs.KnownPatterns.{pattern-later}
 use Rattle.slotted_rules.proofs.rewrite.Rewrite.new_if.Goals as goal
-
-three_ok : {A E : Type 0} (r : Result A E) (P Q R S : A → Type 0) → ((x : A) → P x → Q x → R x → S x) → IfOk r P → IfOk r Q → IfOk r R → IfOk r S
-three_ok (Ok x) P Q R S h p q s = h x p q s
-three_ok (Err e) P Q R S h p q s = tt
-
-two_ok : {A E : Type 0} (r : Result A E) (P Q S : A → Type 0) → ((x : A) → P x → Q x → S x) → IfOk r P → IfOk r Q → IfOk r S
-two_ok (Ok x) P Q S h p q = h x p q
-two_ok (Err e) P Q S h p q = tt
 
 pub returns-in_err-made-clause-err : goal.returns-in_err-made-clause-err
 returns-in_err-made-clause-err g c =
@@ -51,7 +44,7 @@ returns-clause-searched g c =
     let p = c.in_ok-searched.searched in
     let q = c.in_ok-made.made in
     let left : HasKnownNames v (tree_of form p) = pattern-later c.parse.new.table v c.parse-2.ensures.more (tree_of form p) c.in_ok-searched.ensures.known in
-    three_ok c.from_patterns.result (λ r. IsRule r c.args.name.now p q c.args.condition) (λ r. has_substitution (tree_of form p) ≡ false) (λ r. first_lacking (tree_of form q) (tree_of form p) ≡ None) (CanBeSearched form v)
+    IfOk-three c.from_patterns.result (λ r. IsRule r c.args.name.now p q c.args.condition) (λ r. has_substitution (tree_of form p) ≡ false) (λ r. first_lacking (tree_of form q) (tree_of form p) ≡ None) (CanBeSearched form v)
     (λ r is none all. record {
       left_known = subst (λ x. HasKnownNames v (tree_of form x)) (sym is.left_is) left;
       right_known = subst (λ x. HasKnownNames v (tree_of form x)) (sym is.right_is) c.in_ok-made.ensures.known;
@@ -72,5 +65,5 @@ returns-clause-asked g c =
     let form = g.L.LanguageChildren.form in
     let names = g.C.ReadsNames.reads c.args.condition in
     let p = c.in_ok-searched.searched in
-    two_ok c.from_patterns.result (λ r. IsRule r c.args.name.now p c.in_ok-made.made c.args.condition) (λ r. first_unread (tree_of form p) names ≡ None) (λ r. first_unread (tree_of form r.left) names ≡ None)
+    IfOk-both c.from_patterns.result (λ r. IsRule r c.args.name.now p c.in_ok-made.made c.args.condition) (λ r. first_unread (tree_of form p) names ≡ None) (λ r. first_unread (tree_of form r.left) names ≡ None)
     (λ r is none. ap (λ x. first_unread (tree_of form x) names) is.left_is ∙ none) c.from_patterns.ensures.rule c.from_patterns.ensures.asked

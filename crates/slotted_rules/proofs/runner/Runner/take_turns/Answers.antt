@@ -2,9 +2,10 @@
 use Rattle.std.proofs.lemmas.List.{length-map}
 use Rattle.std.proofs.Common.{◌≡◌, ◌∙◌, map, false, refl, ap, inl, inr, IfErr, length, rules, sym, subst, arith}
 use Rattle.std.specs.Prelude.{option_map}
+use Rattle.slotted_lists.proofs.Booleans.{unless-true}
 use Rattle.slotted_graph.specs.Extension.{ExtendsTo}
 use Rattle.slotted_graph.proofs.Extending.{extends-then}
-use Rattle.slotted_rules.proofs.AppliedRules.{not-failed-so, ok-well}
+use Rattle.slotted_rules.proofs.AppliedRules.{ok-well}
 use Rattle.slotted_rules.specs.Applying.{AreModified, RefusesRules}
 use Rattle.slotted_rules.specs.Seen.{iteration_of, limits_of, parts_of, stop_of}
 use Rattle.slotted_rules.specs.Turning.{Calls, RulesOnce, measures, RefusesTurn, no_room}
@@ -50,8 +51,8 @@ loop-self-preserved g c =
       so_far = taken-stored g.K.Clock.tells (RulesOnce g.Q.RewriteT.searches g.Q.RewriteT.applies (AreModified g.N.Analysis.codes g.N.Analysis.meaning g.N.Analysis.may_ask g.N.Analysis.modifies) c.args.rules.now) (Calls g.H.Hook.leaves) (measures g.D.IterationData.made) c.args.start
           (parts_of c.args.self.now) (parts_of c.loop-self.self) (parts_of c.turn.new.self) c.loop-self.invariant.so_far (ap (option_map stop_of) (none-of c.loop-self.self.stop_reason c.is_none.result c.is_none.ensures c.loop-self-test.true))
           c.turn.ensures.rest c.loop-self.self.iterations.items c.turn.new.self.iterations.items c.push.new.self.items c.in_ok-turn.turn.kept c.in_ok-turn.turn.stop refl refl c.in_ok-push.ensures.items c.in_ok-turn.ensures.ok well
-          (not-failed-so {P = ExtendsTo c.loop-self.self.egraph c.turn.new.self.egraph} c.turn.new.self.egraph.failed well c.turn.ensures.extends);
-      lowers = not-failed-so c.turn.new.self.egraph.failed well (later-lowers g.N.Analysis.codes g.N.Analysis.meaning g.met.N.Analysis.is_merge c.args.self.now.egraph c.loop-self.self.egraph c.turn.new.self.egraph c.loop-self.invariant.so_far.extends c.loop-self.invariant.lowers c.turn.ensures.lowers);
+          (unless-true {P = ExtendsTo c.loop-self.self.egraph c.turn.new.self.egraph} c.turn.new.self.egraph.failed well c.turn.ensures.extends);
+      lowers = unless-true c.turn.new.self.egraph.failed well (later-lowers g.N.Analysis.codes g.N.Analysis.meaning g.met.N.Analysis.is_merge c.args.self.now.egraph c.loop-self.self.egraph c.turn.new.self.egraph c.loop-self.invariant.so_far.extends c.loop-self.invariant.lowers c.turn.ensures.lowers);
     }
 
 pub loop-self-preserved-in_ok-push : goal.loop-self-preserved-in_ok-push
@@ -61,8 +62,8 @@ loop-self-preserved-in_ok-push g c =
       so_far = taken-stored g.K.Clock.tells (RulesOnce g.Q.RewriteT.searches g.Q.RewriteT.applies (AreModified g.N.Analysis.codes g.N.Analysis.meaning g.N.Analysis.may_ask g.N.Analysis.modifies) c.args.rules.now) (Calls g.H.Hook.leaves) (measures g.D.IterationData.made) c.args.start
           (parts_of c.args.self.now) (parts_of c.loop-self.self) (parts_of c.turn.new.self) c.loop-self.invariant.so_far (ap (option_map stop_of) (none-of c.loop-self.self.stop_reason c.is_none.result c.is_none.ensures c.loop-self-test.true))
           c.turn.ensures.rest c.loop-self.self.iterations.items c.turn.new.self.iterations.items c.push.new.self.items c.in_ok-turn.turn.kept c.in_ok-turn.turn.stop refl refl c.in_ok-push.ensures.items c.in_ok-turn.ensures.ok well
-          (not-failed-so {P = ExtendsTo c.loop-self.self.egraph c.turn.new.self.egraph} c.turn.new.self.egraph.failed well c.turn.ensures.extends);
-      lowers = not-failed-so c.turn.new.self.egraph.failed well (later-lowers g.N.Analysis.codes g.N.Analysis.meaning g.met.N.Analysis.is_merge c.args.self.now.egraph c.loop-self.self.egraph c.turn.new.self.egraph c.loop-self.invariant.so_far.extends c.loop-self.invariant.lowers c.turn.ensures.lowers);
+          (unless-true {P = ExtendsTo c.loop-self.self.egraph c.turn.new.self.egraph} c.turn.new.self.egraph.failed well c.turn.ensures.extends);
+      lowers = unless-true c.turn.new.self.egraph.failed well (later-lowers g.N.Analysis.codes g.N.Analysis.meaning g.met.N.Analysis.is_merge c.args.self.now.egraph c.loop-self.self.egraph c.turn.new.self.egraph c.loop-self.invariant.so_far.extends c.loop-self.invariant.lowers c.turn.ensures.lowers);
     }
 
 pub loop-self-preserved-in_ok-push-2 : goal.loop-self-preserved-in_ok-push-2
@@ -72,8 +73,8 @@ loop-self-preserved-in_ok-push-2 g c =
       so_far = taken-stored g.K.Clock.tells (RulesOnce g.Q.RewriteT.searches g.Q.RewriteT.applies (AreModified g.N.Analysis.codes g.N.Analysis.meaning g.N.Analysis.may_ask g.N.Analysis.modifies) c.args.rules.now) (Calls g.H.Hook.leaves) (measures g.D.IterationData.made) c.args.start
           (parts_of c.args.self.now) (parts_of c.loop-self.self) (parts_of c.turn.new.self) c.loop-self.invariant.so_far (ap (option_map stop_of) (none-of c.loop-self.self.stop_reason c.is_none.result c.is_none.ensures c.loop-self-test.true))
           c.turn.ensures.rest c.loop-self.self.iterations.items c.turn.new.self.iterations.items c.push.new.self.items c.in_ok-turn.turn.kept c.in_ok-turn.turn.stop refl refl c.in_ok-push.ensures.items c.in_ok-turn.ensures.ok well
-          (not-failed-so {P = ExtendsTo c.loop-self.self.egraph c.turn.new.self.egraph} c.turn.new.self.egraph.failed well c.turn.ensures.extends);
-      lowers = not-failed-so c.turn.new.self.egraph.failed well (later-lowers g.N.Analysis.codes g.N.Analysis.meaning g.met.N.Analysis.is_merge c.args.self.now.egraph c.loop-self.self.egraph c.turn.new.self.egraph c.loop-self.invariant.so_far.extends c.loop-self.invariant.lowers c.turn.ensures.lowers);
+          (unless-true {P = ExtendsTo c.loop-self.self.egraph c.turn.new.self.egraph} c.turn.new.self.egraph.failed well c.turn.ensures.extends);
+      lowers = unless-true c.turn.new.self.egraph.failed well (later-lowers g.N.Analysis.codes g.N.Analysis.meaning g.met.N.Analysis.is_merge c.args.self.now.egraph c.loop-self.self.egraph c.turn.new.self.egraph c.loop-self.invariant.so_far.extends c.loop-self.invariant.lowers c.turn.ensures.lowers);
     }
 
 pub returns-in_err-turn-clause-refused : goal.returns-in_err-turn-clause-refused

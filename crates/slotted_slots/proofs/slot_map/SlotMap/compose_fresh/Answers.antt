@@ -1,9 +1,10 @@
 -- The loop fills the values from the left.
 use Rattle.std.proofs.Common.{◌≡◌, [], ◌∷◌, ◌++◌, take, ap, subst, sym, arith, ◌∙◌}
 use Rattle.std.proofs.lemmas.List.{take_all}
+use Rattle.slotted_lists.proofs.Maps.{is_among-right}
 use Rattle.slotted_slots.specs.Combining.{sent_on, both_values, IsFilled, IsCompleted, TakesForLacked, LacksForLacked, TakesToComplete, LacksToComplete}
 use Rattle.slotted_slots.specs.Maps.{IsInEither, keys, values, value_of, composed, all_differ}
-use Rattle.slotted_slots.proofs.FreshLaws.{AreFilled, lacked_step, IsCompleted-filled, all_differ-filled, among_second, completed_step, completing_takes, completing_lacks}
+use Rattle.slotted_slots.proofs.FreshLaws.{AreFilled, lacked_step, IsCompleted-filled, all_differ-filled, completed_step, completing_takes, completing_lacks}
 use Rattle.slotted_slots.proofs.Taken.{takes_value}
 use Rattle.slotted_slots.specs.Table.{Takes}
 use Rattle.slotted_slots.specs.Ascending.{IsAscending}
@@ -49,7 +50,7 @@ returns-clause-injective c differ =
     let other = c.args.other.now in
     let all : take c.loop-pair.pair-index xs ≡ xs = take_all c.loop-pair.pair-index xs c.loop-pair-test.false in
     let new_values = subst (λ m. AreFilled (values xs ++ values other) c.args.table.now.fresh c.loop-pair.table.fresh (sent_on m other) (values c.loop-pair.pairs.items)) all c.loop-pair.invariant.values in
-    all_differ-filled (values xs ++ values other) c.args.table.now.fresh c.loop-pair.table.fresh xs other (values c.loop-pair.pairs.items) (among_second (values xs) (values other)) new_values
+    all_differ-filled (values xs ++ values other) c.args.table.now.fresh c.loop-pair.table.fresh xs other (values c.loop-pair.pairs.items) (is_among-right (values xs) (values other)) new_values
     (ap (λ m. all_differ (values (composed m other))) (c.deref-pair-items.ensures.value ∙ c.self.view_is) ∙ differ)
 
 pub returns-in_err-value-clause-count : goal.returns-in_err-value-clause-count

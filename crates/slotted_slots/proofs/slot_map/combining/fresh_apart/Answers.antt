@@ -1,10 +1,10 @@
 -- What was skipped was in use.
 use Rattle.std.proofs.Common.{◌≡◌, ◌++◌, sym, ◌∙◌, ap, arith}
 use Rattle.std.specs.Prelude.{true}
+use Rattle.slotted_lists.proofs.Maps.{is_among-left, is_among-right}
 use Rattle.slotted_slots.specs.Maps.{is_among, values}
-use Rattle.slotted_slots.proofs.FreshLaws.{among_second}
 use Rattle.slotted_slots.proofs.SlotsTaken.{at_most_then, at_most_used, at_most_one}
-use Rattle.slotted_slots.proofs.Taken.{among_first, takes_one, takes_used}
+use Rattle.slotted_slots.proofs.Taken.{takes_one, takes_used}
 use Rattle.slotted_slots.proofs.slot_map.combining.fresh_apart.Goals as goal
 use Rattle.slotted_slots.proofs.slot_map.combining.fresh_apart.Goals.{else-not-has_value-via-then-not-has_value+else-not-has_value-2, else-not-has_value-via-else-not-has_value}
 
@@ -19,8 +19,8 @@ loop-slot-preserved c =
     let ws = values c.args.second.now in
     let used : is_among s (vs ++ ws) ≡ true =
     elim c.else-not-has_value.branch [
-      | else-not-has_value-via-then-not-has_value+else-not-has_value-2 w ↦ among_second vs ws s (sym w.has_value-then-not-has_value.ensures ∙ w.if-not-has_value-2.false)
-      | else-not-has_value-via-else-not-has_value w ↦ among_first vs ws s (sym c.has_value.ensures ∙ w.if-not-has_value.false)
+      | else-not-has_value-via-then-not-has_value+else-not-has_value-2 w ↦ is_among-right vs ws s (sym w.has_value-then-not-has_value.ensures ∙ w.if-not-has_value-2.false)
+      | else-not-has_value-via-else-not-has_value w ↦ is_among-left vs ws s (sym c.has_value.ensures ∙ w.if-not-has_value.false)
     ] in
     let m = c.in_ok-slot.ensures.moved in
     record {

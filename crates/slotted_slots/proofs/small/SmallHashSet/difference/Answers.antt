@@ -4,9 +4,10 @@ use Rattle.std.specs.List.Sorted.{IsStrictlySortedBy}
 use Rattle.std.proofs.lemmas.List.Kept.{IsStrictlySortedBy-filter}
 use Rattle.slotted_slots.specs.Sets.{has}
 use Rattle.slotted_slots.specs.SetAlgebra.{remaining}
-use Rattle.slotted_slots.proofs.Loops.{gathered_all, gathered_one, left_out, passes}
+use Rattle.slotted_slots.proofs.Loops.{gathered_all, gathered_one, left_out}
 use Rattle.slotted_slots.proofs.SetAlgebraLaws.{has-remaining}
 use Rattle.std.specs.List.{filter}
+use Rattle.slotted_lists.proofs.Lists.{filter-yes as passes}
 use Rattle.slotted_slots.proofs.small.SmallHashSet.difference.Goals as goal
 use Rattle.slotted_slots.proofs.small.SmallHashSet.difference.Goals.{then-lacks+in_ok-push, else-lacks}
 

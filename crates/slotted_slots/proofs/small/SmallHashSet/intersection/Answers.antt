@@ -4,9 +4,10 @@ use Rattle.std.specs.List.Sorted.{IsStrictlySortedBy}
 use Rattle.std.proofs.lemmas.List.Kept.{IsStrictlySortedBy-filter}
 use Rattle.slotted_slots.specs.Sets.{has}
 use Rattle.slotted_slots.specs.SetAlgebra.{shared}
-use Rattle.slotted_slots.proofs.Loops.{gathered_all, gathered_one, left_out, passes}
+use Rattle.slotted_slots.proofs.Loops.{gathered_all, gathered_one, left_out}
 use Rattle.slotted_slots.proofs.SetAlgebraLaws.{has-shared}
 use Rattle.std.specs.List.{filter}
+use Rattle.slotted_lists.proofs.Lists.{filter-yes as passes}
 use Rattle.slotted_slots.proofs.small.SmallHashSet.intersection.Goals as goal
 use Rattle.slotted_slots.proofs.small.SmallHashSet.intersection.Goals.{then-shares+in_ok-push, else-shares}
 

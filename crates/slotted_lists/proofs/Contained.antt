@@ -1,6 +1,8 @@
--- What a list contains.
+-- What a list contains, by places.
 use Rattle.std.proofs.Common.{◌≡◌, ℕ, zero, suc, ◌<◌, List, [], ◌∷◌, ◌++◌, length, get_or, sym, ◌∙◌, ap, refl, arith, inl, inr}
 use Rattle.std.specs.Prelude.{Contains, map, max, ◌+◌, ◌⊎◌}
+use Rattle.std.proofs.lemmas.List.{get_or_default}
+use Rattle.std.proofs.lemmas.List.Elements.{Contains-append_cases}
 
 pub contains_head : {X : Type 0} (x : X) (xs : List X) → Contains (x ∷ xs) x
 contains_head x xs = (0, omega arith, refl)
@@ -66,3 +68,21 @@ append_parts (x ∷ xs) (u ∷ us) ys vs n h =
     let q : xs ++ ys ≡ us ++ vs = cc in
     let r = append_parts xs us ys vs (omega arith) q in
     (λ i. p i ∷ r.0 i, r.1)
+
+-- one of a list with one more at its end
+pub contains_cases-end : {X : Type 0} (xs : List X) (y x : X) → Contains (xs ++ y ∷ []) x → Contains xs x ⊎ (x ≡ y)
+contains_cases-end xs y x h = elim (Contains-append_cases xs (y ∷ []) x h) [
+  | inl k ↦ inl k
+  | inr k ↦ elim (contains_cases y [] x k) [
+    | inl e ↦ inr e
+    | inr n ↦ absurd (Contains-nil x n)
+  ]
+]
+
+-- functions that agree on a list map it alike
+pub map-agree : {X Y : Type 0} (f g : X → Y) (xs : List X) → ((x : X) → Contains xs x → f x ≡ g x) → map f xs ≡ map g xs
+map-agree f g [] h = refl
+map-agree f g (x ∷ xs) h = λ i. h x (contains_head x xs) i ∷ map-agree f g xs (λ y c. h y (contains_tail x xs y c)) i
+
+pub Contains-get_or : {X : Type 0} (xs : List X) (i : ℕ) (d : X) → i < length xs → Contains xs (get_or xs i d)
+Contains-get_or xs i d l = (i, l, get_or_default xs i (get_or xs i d) d l)
