@@ -7,12 +7,12 @@ use Rattle.std.specs.Prelude.{◌≡◌, refl, ℕ, ◌+◌, ◌*◌, ◌^◌, L
 use Rattle.std.specs.Prelude.{None as nothing}
 use Rattle.std.specs.Coded.{Coded, code_by, coded_option, coded_ℕ}
 use base.Stored.{gnil}
-use Rattle.slotted_analyses.specs.declared.edit.Edit.{Edit}
-use Rattle.slotted_analyses.specs.declared.edit.Edit.TheVariants.{Equal}
+use Rattle.slotted_data.specs.declared.edit.Edit.{Edit}
+use Rattle.slotted_data.specs.declared.edit.Edit.TheVariants.{Equal}
 use Rattle.slotted_small.specs.declared.small.Small.{Small}
 use Rattle.slotted_theory.specs.Nameless.{DTerm}
 use Rattle.slotted_theory.specs.Term.{Term, done}
-use Rattle.slotted_analyses.specs.Meaning.{Meaning}
+use Rattle.slotted_data.specs.Meaning.{Meaning}
 use Rattle.slotted_const_fold.specs.declared.const_fold.ConstFold.{ConstFold}
 use Rattle.slotted_const_fold.specs.declared.const_fold.Fold.{Fold}
 use Rattle.slotted_const_fold.specs.declared.const_fold.Fold.TheVariants.{None, Number, Conflict}

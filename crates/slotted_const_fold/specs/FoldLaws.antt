@@ -2,7 +2,7 @@
 use Rattle.std.specs.Prelude.{◌≡◌, ◌≢◌, ℕ, ◌<◌, cond, refl}
 use Rattle.std.proofs.Common.{arith, ap, sym, ◌∙◌, inl, inr}
 use Rattle.std.proofs.lemmas.Bool.{cases_eq, eq-eqb, ne_eqb}
-use Rattle.slotted_analyses.specs.Meaning.{IsMergeOf}
+use Rattle.slotted_data.specs.Meaning.{IsMergeOf}
 use Rattle.slotted_const_fold.specs.declared.const_fold.Fold.{Fold}
 use Rattle.slotted_const_fold.specs.declared.const_fold.Fold.TheVariants.{None, Number, Conflict}
 use Rattle.slotted_const_fold.specs.ConstFold.{fold, fold_merged, fold_height}

@@ -4,7 +4,7 @@ ghost use Rattle.std.proofs.Common.{inl};
 ghost use Rattle.slotted_slots.specs.Error.{IsOutOfMemory};
 ghost use Rattle.slotted_const_fold.specs.ConstFold.{both, fold_merged, known_of};
 
-use slotted_analyses::{Analysis, Edit};
+use slotted_data::{Analysis, Edit};
 use slotted_slots::{Error, Slot};
 use slotted_small::Small;
 use slotted_terms::RecExpr;

@@ -30,8 +30,8 @@ use Rattle.slotted_hashcons.proofs.FiledRows.{source-filed}
 use Rattle.slotted_rebuilding.specs.Counted.{CountsFit, CountsGo}
 use Rattle.slotted_hashcons.specs.WellFiled.{state_in}
 use Rattle.slotted_rebuilding.proofs.RebuildCounts.{counts-same}
-use Rattle.slotted_analyses.specs.Meaning.{Meaning, by_bare_nodes}
-use Rattle.slotted_analyses.proofs.Merging.{makes-alike}
+use Rattle.slotted_data.specs.Meaning.{Meaning, by_bare_nodes}
+use Rattle.slotted_data.proofs.Merging.{makes-alike}
 use Rattle.slotted_data.specs.Grounded.{Grounds, IsOldOr}
 use Rattle.slotted_data.specs.Held.{DataCounts, Held, users_of, with_carried}
 use Rattle.slotted_data.specs.Made.{data_in, children_at, source_class, AddsNew}

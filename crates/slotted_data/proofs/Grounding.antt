@@ -25,8 +25,8 @@ use Rattle.slotted_model_analyses.proofs.Writing.{graph-stays}
 use Rattle.slotted_classes.specs.Kept.{Kept, nodes_of, entries_of}
 use Rattle.slotted_classes.proofs.KeptLists.{length-nodes_of}
 use Rattle.slotted_classes.proofs.ClassNodes.{node-is}
-use Rattle.slotted_analyses.specs.Meaning.{Meaning, by_bare_nodes}
-use Rattle.slotted_analyses.proofs.Merging.{makes-alike}
+use Rattle.slotted_data.specs.Meaning.{Meaning, by_bare_nodes}
+use Rattle.slotted_data.proofs.Merging.{makes-alike}
 use Rattle.slotted_data.specs.Grounded.{Grounds, IsGrounded, at_first, by_find, by_merge, by_node, IsOldOr, StaysFound}
 use Rattle.slotted_data.specs.Held.{Held}
 use Rattle.slotted_data.specs.Made.{AddsNew, data_in, source_class}

@@ -12,3 +12,5 @@ pub mod Settled
 pub mod MergedValues
 pub mod Resting
 pub mod Telling
+pub mod Merging
+pub mod ValidEdits

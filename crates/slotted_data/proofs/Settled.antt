@@ -8,7 +8,7 @@ use Rattle.slotted_model_analyses.specs.DataPart.{starts}
 use Rattle.slotted_classes.specs.Kept.{Kept, ListsDead, entries_of}
 use Rattle.slotted_hashcons.specs.FiledRows.{Rows}
 use Rattle.slotted_hashcons.specs.WellFiled.{state_in}
-use Rattle.slotted_analyses.specs.Meaning.{Meaning, by_bare_nodes}
+use Rattle.slotted_data.specs.Meaning.{Meaning, by_bare_nodes}
 use Rattle.slotted_data.specs.Held.{Held, with_carried}
 use Rattle.slotted_data.specs.Users.{EntersUsers}
 use Rattle.slotted_data.specs.Burying.{Buries}

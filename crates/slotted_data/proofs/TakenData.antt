@@ -30,7 +30,7 @@ use Rattle.slotted_hashcons.proofs.FiledRows.{row-children, row-filed, source-fi
 use Rattle.slotted_hashcons.specs.WellFiled.{state_in}
 use Rattle.slotted_bare_nodes.specs.BareNodes.{bare_node}
 use Rattle.slotted_bare_nodes.proofs.Alike.{bare-shape}
-use Rattle.slotted_analyses.specs.Meaning.{Meaning, by_bare_nodes}
+use Rattle.slotted_data.specs.Meaning.{Meaning, by_bare_nodes}
 use Rattle.slotted_data.specs.Held.{Held, users_of}
 use Rattle.slotted_data.specs.Made.{data_in, children_at, child_values, source_class}
 use Rattle.slotted_data.specs.Users.{WaitEach, found_in}

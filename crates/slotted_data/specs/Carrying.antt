@@ -20,7 +20,7 @@ use Rattle.slotted_rebuilding.specs.Counted.{CountsFit, CountsGo}
 use Rattle.slotted_hashcons.specs.WellFiled.{state_in}
 use Rattle.slotted_data.specs.Grounded.{Grounds, IsOldOr}
 use Rattle.slotted_data.specs.Held.{Held, no_turns}
-use Rattle.slotted_analyses.specs.Meaning.{Meaning, by_bare_nodes}
+use Rattle.slotted_data.specs.Meaning.{Meaning, by_bare_nodes}
 use Rattle.slotted_data.specs.Made.{AddsNew, HasHeights, data_in}
 use Rattle.slotted_data.specs.Users.{EntersUsers, found_in}
 use Rattle.slotted_data.specs.Lowering.{HasUsers, RisesTo, part_of}

@@ -8,3 +8,5 @@ pub mod Burying
 pub mod Carrying
 pub mod Part
 pub mod Pending
+pub mod Meaning
+pub mod Edits

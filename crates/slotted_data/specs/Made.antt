@@ -12,7 +12,7 @@ use Rattle.slotted_model.specs.Find.{Entry, find_class}
 use Rattle.slotted_classes.specs.Kept.{Kept, node_at, entries_of}
 use Rattle.slotted_hashcons.specs.FiledRows.{key_children}
 use Rattle.slotted_bare_nodes.specs.BareNodes.{bare_node}
-use Rattle.slotted_analyses.specs.Meaning.{Meaning}
+use Rattle.slotted_data.specs.Meaning.{Meaning}
 use Rattle.slotted_data.specs.Held.{Held, users_of, HasNewValue}
 
 abbrev pub data_in : {D : Type 0} → D → List D → ℕ → D

@@ -4,14 +4,14 @@ ghost use Rattle.slotted_slots.specs.Error.{IsOutOfMemory};
 ghost use Rattle.slotted_model.specs.Find.{IsLive};
 ghost use Rattle.slotted_classes.specs.Finding.{HasFinds};
 ghost use Rattle.slotted_classes.specs.Kept.{entries_of};
-ghost use Rattle.slotted_analyses.specs.Meaning.{by_bare_nodes};
+ghost use Rattle.slotted_data.specs.Meaning.{by_bare_nodes};
 ghost use Rattle.slotted_data.specs.Burying.{Buries, BuriesOne, MovesUsers};
 ghost use Rattle.slotted_data.specs.Held.{users_of};
 
+use crate::Analysis;
 use crate::class_data::ClassData;
 use crate::lowering::put_value;
 use crate::users::wait_each;
-use slotted_analyses::Analysis;
 use slotted_classes::Store;
 use slotted_hashcons::Hashcons;
 use slotted_languages::Language;

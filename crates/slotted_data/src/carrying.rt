@@ -6,16 +6,16 @@ ghost use Rattle.slotted_classes.specs.Finding.{HasFinds};
 ghost use Rattle.slotted_classes.specs.Kept.{Kept, ListsDead, entries_of};
 ghost use Rattle.slotted_hashcons.specs.FiledRows.{Rows};
 ghost use Rattle.slotted_hashcons.specs.WellFiled.{state_in};
-ghost use Rattle.slotted_analyses.specs.Meaning.{by_bare_nodes};
+ghost use Rattle.slotted_data.specs.Meaning.{by_bare_nodes};
 ghost use Rattle.slotted_data.specs.Carrying.{Carried, CarriesUp, DataRests, HasCarriedAll, HasNewData};
 ghost use Rattle.slotted_data.specs.Carrying.{MergesIn, RestedBefore, RestedOnce};
 
+use crate::Analysis;
 use crate::burying::bury;
 use crate::class_data::ClassData;
 use crate::lowering::{lower, rise};
 use crate::making::add_new;
 use crate::users::enter_users;
-use slotted_analyses::Analysis;
 use slotted_classes::Store;
 use slotted_hashcons::Hashcons;
 use slotted_languages::Language;

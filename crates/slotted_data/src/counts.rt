@@ -8,8 +8,8 @@ ghost use Rattle.slotted_data.specs.Held.{no_turns};
 ghost use Rattle.slotted_data.specs.Pending.{lives_in};
 ghost use Rattle.slotted_data.specs.Carrying.{AreCounted};
 
+use crate::Analysis;
 use crate::class_data::ClassData;
-use slotted_analyses::Analysis;
 use slotted_classes::{RebuildCount, Store};
 use slotted_languages::Language;
 

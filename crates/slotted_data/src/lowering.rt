@@ -7,14 +7,14 @@ ghost use Rattle.slotted_classes.specs.Finding.{HasFinds};
 ghost use Rattle.slotted_hashcons.specs.Filed.{filed_of};
 ghost use Rattle.slotted_hashcons.specs.FiledRows.{rows_in};
 ghost use Rattle.slotted_hashcons.specs.WellFiled.{state_in};
-ghost use Rattle.slotted_analyses.specs.Meaning.{by_bare_nodes};
+ghost use Rattle.slotted_data.specs.Meaning.{by_bare_nodes};
 ghost use Rattle.slotted_data.specs.Lowering.{FallsBy, IsReady, Lowers, MakesValue, Puts, RisesTo};
 ghost use Rattle.slotted_data.specs.Lowering.{TakesTurns, TakesValue, part_of, quiet};
 
+use crate::Analysis;
 use crate::class_data::{ClassData, Taken};
 use crate::making::child_data;
 use crate::users::wait_each;
-use slotted_analyses::Analysis;
 use slotted_classes::Store;
 use slotted_hashcons::Hashcons;
 use slotted_languages::Language;

@@ -8,8 +8,8 @@ ghost use Rattle.slotted_hashcons.specs.FiledRows.{HasChildrenBelow, key_childre
 ghost use Rattle.slotted_bare_nodes.specs.BareNodes.{HasValuesFor};
 ghost use Rattle.slotted_data.specs.Made.{AddsNew, AddsNext, HasChildValues, source_class};
 
+use crate::Analysis;
 use crate::class_data::ClassData;
-use slotted_analyses::Analysis;
 use slotted_classes::Store;
 use slotted_languages::Language;
 use slotted_slots::Error;

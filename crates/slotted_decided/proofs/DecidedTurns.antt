@@ -13,7 +13,7 @@ use Rattle.slotted_operations.specs.Graph.{Graph}
 use Rattle.slotted_operations.specs.ValidIds.{IsValidId}
 use Rattle.std.specs.Coded.{Coded}
 use Rattle.slotted_lists.proofs.Options.{Some-same}
-use Rattle.slotted_analyses.specs.Meaning.{IsMergeOf, Meaning}
+use Rattle.slotted_data.specs.Meaning.{IsMergeOf, Meaning}
 use Rattle.slotted_graph.specs.Analysed.{LowersData}
 use Rattle.slotted_graph.specs.Extension.{ExtendsTo}
 use Rattle.slotted_graph.proofs.Saying.{lowers-then}

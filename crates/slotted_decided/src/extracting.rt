@@ -8,8 +8,8 @@ ghost use Rattle.slotted_graph.specs.Analysed.{LowersData};
 ghost use Rattle.slotted_deciding.specs.Steps.{CanRefuse, GoesTo};
 ghost use Rattle.slotted_decided.specs.Extracted.{IsLeastDecided};
 
-use slotted_analyses::Analysis;
 use slotted_costs::CostFunction;
+use slotted_data::Analysis;
 use slotted_deciding::decide;
 use slotted_extract::extract_by;
 use slotted_graph::EGraph;

@@ -10,7 +10,7 @@ ghost use Rattle.slotted_rules.specs.Written.{CanBeSearched};
 ghost use Rattle.slotted_deciding.specs.Steps.{CanRefuse};
 ghost use Rattle.slotted_decided.specs.Turns.{HasRunDecided, IsDecidedTurn, IsStillTurn};
 
-use slotted_analyses::Analysis;
+use slotted_data::Analysis;
 use slotted_deciding::decide;
 use slotted_graph::EGraph;
 use slotted_languages::Language;

@@ -18,7 +18,7 @@ use Rattle.slotted_graph.specs.Extension.{ExtendsTo}
 use Rattle.slotted_graph.specs.States.{IsGraph}
 use Rattle.slotted_graph.proofs.Insides.{given}
 use Rattle.std.specs.Coded.{Coded}
-use Rattle.slotted_analyses.specs.Meaning.{IsMergeOf, Meaning}
+use Rattle.slotted_data.specs.Meaning.{IsMergeOf, Meaning}
 use Rattle.slotted_graph.proofs.Saying.{lowers-same}
 use Rattle.slotted_deciding.specs.Steps.{GoesTo, LeadsTo}
 use Rattle.slotted_deciding.proofs.Growing.{goes-itself, leads-with}

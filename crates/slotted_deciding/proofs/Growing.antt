@@ -17,7 +17,7 @@ use Rattle.slotted_graph.specs.States.{IsGraph}
 use Rattle.slotted_graph.proofs.Extending.{extends-added, extends-itself, extends-takes, extends-then}
 use Rattle.slotted_deciding.specs.Equality.{EqualUpTo, IsDecidedGraph, IsTwist}
 use Rattle.slotted_deciding.specs.Settling.{ClassIsSettled, IsLookedUpAs, child_at, with_child_at}
-use Rattle.slotted_analyses.specs.Meaning.{IsMergeOf, Meaning}
+use Rattle.slotted_data.specs.Meaning.{IsMergeOf, Meaning}
 use Rattle.slotted_graph.specs.Analysed.{LowersData}
 use Rattle.slotted_graph.proofs.Saying.{lowers-itself, lowers-same, lowers-then}
 use Rattle.slotted_graph.proofs.StatesLater.{state-takes, graph-takes}

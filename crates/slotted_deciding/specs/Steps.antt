@@ -8,7 +8,7 @@ use Rattle.slotted_slots.specs.Error.{IsShortage}
 use Rattle.slotted_slots.specs.declared.error.Error.{Error}
 use Rattle.slotted_operations.specs.Graph.{Graph}
 use Rattle.slotted_operations.specs.Image.{asserted_in}
-use Rattle.slotted_analyses.specs.Meaning.{Meaning}
+use Rattle.slotted_data.specs.Meaning.{Meaning}
 use Rattle.slotted_graph.specs.Analysed.{LowersData}
 use Rattle.slotted_graph.specs.Extension.{ExtendsTo}
 use Rattle.slotted_graph.specs.States.{IsGraph}

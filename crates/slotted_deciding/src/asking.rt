@@ -13,7 +13,7 @@ use crate::deciding::decide;
 use crate::failing::failing;
 use crate::is_equal_up_to_symmetries;
 use crate::proving::proof_between;
-use slotted_analyses::Analysis;
+use slotted_data::Analysis;
 use slotted_graph::EGraph;
 use slotted_languages::Language;
 use slotted_proofs::ProvenEq;

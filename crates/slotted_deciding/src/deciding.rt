@@ -9,7 +9,7 @@ ghost use Rattle.slotted_deciding.specs.Steps.{CanRefuse, GoesTo, LeadsTo};
 use crate::failing::failing;
 use crate::settling::{Missing, all_missing, missing_by_generators};
 use crate::uniting::unite_all;
-use slotted_analyses::Analysis;
+use slotted_data::Analysis;
 use slotted_graph::EGraph;
 use slotted_languages::Language;
 use slotted_slots::Error;

@@ -1,7 +1,7 @@
 //! A refusal of a call that decides fails the graph.
 ghost use Rattle.std.specs.Prelude.{◌≡◌, true, IsErr, IsOk};
 
-use slotted_analyses::Analysis;
+use slotted_data::Analysis;
 use slotted_graph::EGraph;
 use slotted_languages::Language;
 use slotted_slots::Error;

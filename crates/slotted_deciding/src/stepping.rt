@@ -6,7 +6,7 @@ ghost use Rattle.slotted_operations.specs.Explaining.{StandsAt};
 ghost use Rattle.slotted_graph.specs.States.{IsGraph};
 ghost use Rattle.slotted_deciding.specs.Steps.{CanRefuse, LeadsTo};
 
-use slotted_analyses::Analysis;
+use slotted_data::Analysis;
 use slotted_graph::{Check, EGraph};
 use slotted_languages::Language;
 use slotted_proofs::{Equation, ProvenEq, SymmetryProof, TransitivityProof};

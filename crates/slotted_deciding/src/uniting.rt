@@ -14,7 +14,7 @@ use crate::is_equal_up_to_symmetries;
 use crate::settling::{Missing, Turn, Variant};
 use crate::stepping::{checked, explained, step_by};
 use slotted_alike::alike::child_equations;
-use slotted_analyses::Analysis;
+use slotted_data::Analysis;
 use slotted_graph::EGraph;
 use slotted_languages::Language;
 use slotted_proofs::{CongruenceProof, Equation, ProvenEq};

@@ -43,8 +43,8 @@ pub use Rattle.slotted_explain.specs.Chosen
 pub use Rattle.slotted_explain.specs.FiledNodes
 pub use Rattle.slotted_explain.specs.Measure
 -- of analyses
-pub use Rattle.slotted_analyses.specs.Meaning
-pub use Rattle.slotted_analyses.specs.Edits
+pub use Rattle.slotted_data.specs.Meaning
+pub use Rattle.slotted_data.specs.Edits
 pub use Rattle.slotted_data.specs.Part
 pub use Rattle.slotted_data.specs.Grounded
 pub use Rattle.slotted_graph.specs.Analysed

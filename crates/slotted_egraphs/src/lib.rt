@@ -10,9 +10,9 @@
 pub mod example;
 pub mod slot_map;
 
-pub use slotted_analyses::Analysis;
-pub use slotted_analyses::Edit;
 pub use slotted_classes::RebuildCount;
+pub use slotted_data::Analysis;
+pub use slotted_data::Edit;
 pub use slotted_decided::AstSize;
 pub use slotted_decided::CostFunction;
 pub use slotted_decided::DecidedLimits;

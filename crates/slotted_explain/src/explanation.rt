@@ -10,7 +10,7 @@ ghost use Rattle.slotted_explain.specs.Chain.{ChainRunsOut, MakesForChain};
 use crate::flat::{ChainForm, chain_text};
 use crate::print::lines_text;
 use crate::steps::flat_steps;
-use slotted_analyses::Analysis;
+use slotted_data::Analysis;
 use slotted_graph::EGraph;
 use slotted_languages::Language;
 use slotted_proofs::{Equation, Proof, ProvenEq, ProvenEqRaw};

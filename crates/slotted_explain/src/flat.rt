@@ -9,8 +9,8 @@ ghost use Rattle.slotted_explain.specs.Chain.{RunsOutForTwoTermsOf, StepRunsOut,
 
 use crate::flat_terms::{marked, name_others, names_in, replace_at, subterm};
 use crate::steps::{FlatStep, from_side, mark_text, reason_text, to_side};
-use slotted_analyses::Analysis;
 use slotted_changes::{Marked, named_like, texts_of_change};
+use slotted_data::Analysis;
 use slotted_graph::EGraph;
 use slotted_proofs::ProvenEq;
 use slotted_slots::{AppliedId, Error, SlotMap, SlotTable};

@@ -7,7 +7,7 @@ ghost use Rattle.slotted_graph.specs.Syn.{MakesForTermAt, RunsOutForTermAt};
 ghost use Rattle.slotted_explain.specs.Printed.{AppendsLine, ArePrinted, IsSideText, IsSidesText, LineRunsOut};
 ghost use Rattle.slotted_explain.specs.Printed.{LinesRunOut, MakesForLine, MakesForLines};
 
-use slotted_analyses::Analysis;
+use slotted_data::Analysis;
 use slotted_graph::EGraph;
 use slotted_proofs::reasons::reason;
 use slotted_proofs::{ProofLines, ProvenEq};

@@ -14,8 +14,8 @@ ghost use Rattle.slotted_graph.specs.LeastTerms.{AreChosenOf, AreLeastOf, HasEac
 ghost use Rattle.slotted_graph.specs.LeastTerms.{IsMadeOf, IsOfChosen, LacksEntry, MakesForExtracted, MakesForLeast};
 ghost use Rattle.slotted_graph.specs.LeastTerms.{RunsOutForExtracted, RunsOutForLeast};
 
-use slotted_analyses::Analysis;
 use slotted_costs::{AstSize, CostFunction};
+use slotted_data::Analysis;
 use slotted_graph::{EGraph, LeastTerms};
 use slotted_languages::Language;
 use slotted_slots::{AppliedId, Error};

@@ -8,8 +8,8 @@ ghost use Rattle.slotted_proofs.specs.Equations.{to_applied};
 ghost use Rattle.slotted_graph.specs.LeastTerms.{IsLeastTerm};
 
 use crate::rules::{Rule, arithmetic};
-use slotted_analyses::Analysis;
 use slotted_const_fold::ConstFold;
+use slotted_data::Analysis;
 use slotted_extract::ast_size_extract;
 use slotted_graph::EGraph;
 use slotted_rules::{Clock, NoHook, Runner, StopReason, are_valid};

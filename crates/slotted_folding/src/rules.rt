@@ -1,5 +1,5 @@
 //! The rules of arithmetic.
-use slotted_analyses::Analysis;
+use slotted_data::Analysis;
 use slotted_graph::EGraph;
 use slotted_rules::{Always, Rewrite, UnlessEqual, sparing};
 use slotted_slots::Error;

@@ -21,7 +21,7 @@ use Rattle.slotted_classes.specs.Kept.{EntersIn, Kept, entries_of, find_at, node
 use Rattle.slotted_classes.proofs.KeptLists.{entry_at-of, length-entries_of, length-nodes_of}
 use Rattle.slotted_hashcons.specs.FiledRows.{Rows, rows_in}
 use Rattle.slotted_hashcons.specs.WellFiled.{state_in}
-use Rattle.slotted_analyses.specs.Meaning.{Meaning, by_bare_nodes}
+use Rattle.slotted_data.specs.Meaning.{Meaning, by_bare_nodes}
 use Rattle.slotted_data.specs.Held.{Held, with_none_changed}
 use Rattle.slotted_data.specs.Lowering.{quiet}
 use Rattle.slotted_data.specs.Made.{data_in}

@@ -10,7 +10,7 @@ use Rattle.slotted_classes.specs.Kept.{Kept, size_of}
 use Rattle.slotted_classes.specs.declared.counts.RebuildCount.{RebuildCount}
 use Rattle.slotted_hashcons.specs.FiledRows.{Rows, rows_in}
 use Rattle.slotted_rebuilding.specs.Counted.{CountsFit, CountsGo, TotalsFit}
-use Rattle.slotted_analyses.specs.Meaning.{Meaning, by_bare_nodes}
+use Rattle.slotted_data.specs.Meaning.{Meaning, by_bare_nodes}
 use Rattle.slotted_data.specs.Held.{DataCounts, Held}
 use Rattle.slotted_data.specs.Made.{HasHeights}
 use Rattle.slotted_data.specs.Carrying.{AreCounted, DataRests}

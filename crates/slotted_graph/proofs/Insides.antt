@@ -6,7 +6,7 @@ use base.Stored.{Gv}
 use Rattle.slotted_slots.specs.Table.{Table}
 use Rattle.slotted_classes.specs.Kept.{Kept}
 use Rattle.slotted_hashcons.specs.FiledRows.{Rows, rows_in}
-use Rattle.slotted_analyses.specs.Meaning.{Meaning, by_bare_nodes}
+use Rattle.slotted_data.specs.Meaning.{Meaning, by_bare_nodes}
 use Rattle.slotted_data.specs.Held.{Held}
 use Rattle.slotted_data.specs.Carrying.{DataRests}
 use Rattle.slotted_operations.specs.Good.{Good, HasFreshSlots, RestsWith, graph_of, image_of}

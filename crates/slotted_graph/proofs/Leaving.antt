@@ -7,8 +7,8 @@ use base.Stored.{Gv}
 use Rattle.slotted_theory.specs.Nameless.{DTerm}
 use Rattle.slotted_model.specs.Applied.{Applied}
 use Rattle.slotted_rebuilding.proofs.RebuildCounts.{counts-same}
-use Rattle.slotted_analyses.specs.declared.edit.Edit.{Edit}
-use Rattle.slotted_analyses.specs.Meaning.{IsMergeOf, Meaning, by_bare_nodes}
+use Rattle.slotted_data.specs.declared.edit.Edit.{Edit}
+use Rattle.slotted_data.specs.Meaning.{IsMergeOf, Meaning, by_bare_nodes}
 use Rattle.slotted_data.specs.Part.{Part, part_code}
 use Rattle.slotted_data.proofs.Grounding.{grounds-itself, stays-itself}
 use Rattle.slotted_operations.specs.LookUp.{HasSameClasses}

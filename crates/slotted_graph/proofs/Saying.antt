@@ -23,10 +23,10 @@ use Rattle.slotted_proofs.specs.Equations.{to_applied}
 use Rattle.slotted_rebuilding.specs.Counted.{CountsGo}
 use Rattle.slotted_rebuilding.proofs.RebuildCounts.{counts-same, counts-then}
 use Rattle.slotted_operations.proofs.CallerLemmas.{term_later, valid-over_none}
-use Rattle.slotted_analyses.specs.Meaning.{IsMergeOf, Meaning, by_bare_nodes}
-use Rattle.slotted_analyses.specs.declared.edit.Edit.{Edit}
-use Rattle.slotted_analyses.specs.declared.edit.Edit.TheVariants.{Add, Equal, Equate}
-use Rattle.slotted_analyses.specs.Edits.{IsValidEdit}
+use Rattle.slotted_data.specs.Meaning.{IsMergeOf, Meaning, by_bare_nodes}
+use Rattle.slotted_data.specs.declared.edit.Edit.{Edit}
+use Rattle.slotted_data.specs.declared.edit.Edit.TheVariants.{Add, Equal, Equate}
+use Rattle.slotted_data.specs.Edits.{IsValidEdit}
 use Rattle.slotted_model_analyses.specs.Analysis.{Absorbs}
 use Rattle.slotted_model_analyses.proofs.Absorbing.{absorbs-through}
 use Rattle.slotted_data.specs.Grounded.{Grounds, IsOldOr}

@@ -11,7 +11,7 @@ use Rattle.slotted_theory.specs.Term.{Term}
 use Rattle.slotted_nodes.specs.Form.{Form}
 use Rattle.slotted_model.specs.Applied.{Applied}
 use Rattle.slotted_model.specs.Growth.{Extends}
-use Rattle.slotted_analyses.specs.Meaning.{IsMergeOf, Meaning}
+use Rattle.slotted_data.specs.Meaning.{IsMergeOf, Meaning}
 use Rattle.slotted_data.specs.Part.{Part, part_code}
 use Rattle.slotted_operations.specs.Explaining.{AddsTerms, KeepsKnown}
 use Rattle.slotted_operations.specs.Graph.{Graph, RecordsUnion}

@@ -22,7 +22,7 @@ use Rattle.slotted_model.specs.Correspondence.{AllDifferent}
 use Rattle.slotted_model.specs.State.{Row, child_classes}
 use Rattle.slotted_model_analyses.specs.Analysis.{Absorbs}
 use Rattle.slotted_rebuilding.specs.Counted.{CountsGo}
-use Rattle.slotted_analyses.specs.Meaning.{Meaning, by_bare_nodes}
+use Rattle.slotted_data.specs.Meaning.{Meaning, by_bare_nodes}
 use Rattle.slotted_data.specs.Grounded.{Grounds, IsOldOr, StaysFound}
 use Rattle.slotted_data.specs.Held.{no_values}
 use Rattle.slotted_data.specs.Part.{Part, NotesChanges, part_by, part_code}

@@ -6,8 +6,8 @@
 use Rattle.std.specs.Prelude.{◌≡◌, ℕ, List, []}
 use Rattle.std.specs.Coded.{Coded}
 use Rattle.slotted_theory.specs.Nameless.{DTerm}
-use Rattle.slotted_analyses.specs.declared.edit.Edit.{Edit}
-use Rattle.slotted_analyses.specs.Meaning.{Meaning}
+use Rattle.slotted_data.specs.declared.edit.Edit.{Edit}
+use Rattle.slotted_data.specs.Meaning.{Meaning}
 use Rattle.slotted_graph.specs.Analysed.{HasData, IsAnalysisOf, LowersData, LowersDataWith}
 use Rattle.slotted_operations.specs.Causes.{class_found}
 use Rattle.slotted_graph.specs.Extension.{IsBetween}

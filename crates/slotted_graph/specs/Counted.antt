@@ -10,7 +10,7 @@ use Rattle.std.specs.Coded.{Coded}
 use Rattle.slotted_classes.specs.Counts.{most_bound}
 use Rattle.slotted_classes.specs.declared.counts.RebuildCount.{RebuildCount}
 pub use Rattle.slotted_rebuilding.specs.Counted.{CountsFit, CountsGo}
-use Rattle.slotted_analyses.specs.Meaning.{Meaning}
+use Rattle.slotted_data.specs.Meaning.{Meaning}
 use Rattle.slotted_data.specs.Part.{Part}
 pub use Rattle.slotted_data.specs.Counted.{IsWithinBound, heights_of, last_of, told_at, totals_with}
 use Rattle.slotted_operations.specs.Graph.{Graph}

@@ -17,9 +17,9 @@ use Rattle.slotted_model.specs.Applied.{Applied}
 use Rattle.slotted_model.specs.Classes.{IsFull, term_of}
 use Rattle.slotted_model.specs.ProofList.{Equation, equation_of, explicit, term_pair}
 use Rattle.slotted_proofs.specs.Entries.{proven_at}
-use Rattle.slotted_analyses.specs.declared.edit.Edit.{Edit}
-use Rattle.slotted_analyses.specs.declared.edit.Edit.TheVariants.{Add, Equal, Equate}
-use Rattle.slotted_analyses.specs.Meaning.{Meaning}
+use Rattle.slotted_data.specs.declared.edit.Edit.{Edit}
+use Rattle.slotted_data.specs.declared.edit.Edit.TheVariants.{Add, Equal, Equate}
+use Rattle.slotted_data.specs.Meaning.{Meaning}
 use Rattle.slotted_graph.specs.Analysed.{CarriesData}
 use Rattle.slotted_operations.specs.Graph.{Graph, IsFullId}
 use Rattle.slotted_operations.specs.Image.{StandsIn, asserted_in}

@@ -8,9 +8,9 @@
 --     IsModified .. g h y         rounds were made, unless classes are never modified, y says that anything was asked
 use Rattle.std.specs.Prelude.{◌≡◌, ◌⊎◌, ◌≤◌, ℕ, suc, List, [], ◌∷◌, ◌++◌, All, length, Bool, IsTrue, false, ◌||◌, nat_eq, not}
 use Rattle.std.specs.Coded.{Coded}
-use Rattle.slotted_analyses.specs.declared.edit.Edit.{Edit}
-use Rattle.slotted_analyses.specs.Edits.{AsksNothing}
-use Rattle.slotted_analyses.specs.Meaning.{Meaning}
+use Rattle.slotted_data.specs.declared.edit.Edit.{Edit}
+use Rattle.slotted_data.specs.Edits.{AsksNothing}
+use Rattle.slotted_data.specs.Meaning.{Meaning}
 use Rattle.slotted_operations.specs.LookUp.{HasSameClasses}
 use Rattle.slotted_graph.specs.Analysed.{CountsPending, HasRounds, IsAnalysisOf, LowersData, TakesPending}
 use Rattle.slotted_graph.specs.Extension.{ExtendsTo}

@@ -16,7 +16,7 @@ use Rattle.slotted_theory.specs.Term.{Term}
 use Rattle.slotted_nodes.specs.Form.{Form}
 use Rattle.slotted_model.specs.Applied.{Applied}
 use Rattle.slotted_proofs.specs.Equations.{to_applied}
-use Rattle.slotted_analyses.specs.Meaning.{Meaning}
+use Rattle.slotted_data.specs.Meaning.{Meaning}
 use Rattle.slotted_operations.specs.Adding.{AddsSyn}
 use Rattle.slotted_operations.specs.AddingTerms.{FilesOnlyLookedUp}
 use Rattle.slotted_operations.specs.Explaining.{AddsTerms, KeepsKnown}

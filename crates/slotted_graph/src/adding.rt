@@ -22,7 +22,7 @@ ghost use Rattle.slotted_graph.specs.Writing.{AddsAndModifies, AddsSynBefore, If
 ghost use Rattle.slotted_graph.specs.Writing.{MakesForNode, MakesForSynNode, MakesForSynTerm, MakesForTerm};
 
 use crate::egraph::EGraph;
-use slotted_analyses::Analysis;
+use slotted_data::Analysis;
 use slotted_languages::Language;
 use slotted_slots::{AppliedId, Error};
 use slotted_terms::expr::RecExpr;

@@ -4,14 +4,14 @@ ghost use Rattle.slotted_slots.specs.Error.{IsShortage};
 ghost use Rattle.slotted_slots.specs.Table.{KnowsMore};
 ghost use Rattle.slotted_proofs.specs.Equations.{to_applied};
 ghost use Rattle.slotted_terms.specs.Valid.{IsValidTerm};
-ghost use Rattle.slotted_analyses.specs.Edits.{IsValidEdit};
-ghost use Rattle.slotted_analyses.specs.declared.edit.Edit.TheVariants.{Equate};
+ghost use Rattle.slotted_data.specs.Edits.{IsValidEdit};
+ghost use Rattle.slotted_data.specs.declared.edit.Edit.TheVariants.{Equate};
 ghost use Rattle.slotted_graph.specs.States.{IsGraph};
 ghost use Rattle.slotted_operations.specs.ValidIds.{IsValidId};
 ghost use Rattle.slotted_graph.specs.Edited.{AddsTerm, MakesEdit, MakesEdits, UnitesIds};
 
 use crate::egraph::EGraph;
-use slotted_analyses::{Analysis, Edit};
+use slotted_data::{Analysis, Edit};
 use slotted_languages::Language;
 use slotted_slots::{AppliedId, Error};
 use slotted_terms::RecExpr;

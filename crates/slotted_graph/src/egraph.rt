@@ -29,9 +29,8 @@ pub mod steps;
 
 use crate::method::SubstMethod;
 use crate::writes::uniting;
-use slotted_analyses::Analysis;
 use slotted_classes::{Store, Symmetry};
-use slotted_data::ClassData;
+use slotted_data::{Analysis, ClassData};
 use slotted_hashcons::Hashcons;
 use slotted_languages::Language;
 use slotted_matching::IndexCache;
@@ -93,7 +92,7 @@ pub struct EGraph<L: Language, N: Analysis<L> = ()> {
 impl<L: Language, N: Analysis<L>> Model for EGraph<L, N> {
     ghost use Rattle.std.specs.Prelude.{IfSome, IsTrue, ◌⊎◌};
     ghost use Rattle.slotted_operations.specs.Graph.{Graph, graph_code};
-    ghost use Rattle.slotted_analyses.specs.Meaning.{by_bare_nodes};
+    ghost use Rattle.slotted_data.specs.Meaning.{by_bare_nodes};
     ghost use Rattle.slotted_data.specs.Carrying.{DataRests};
     ghost use Rattle.slotted_data.specs.Part.{part_by};
     ghost use Rattle.slotted_operations.specs.Good.{Good, RestsWith, HasFreshSlots, graph_of};

@@ -10,7 +10,7 @@ ghost use Rattle.slotted_graph.specs.Analysed.{CarriesData};
 ghost use Rattle.slotted_graph.specs.Writing.{ExplainsAndModifies, IfUnmodified, LeavesAsked};
 
 use crate::egraph::EGraph;
-use slotted_analyses::Analysis;
+use slotted_data::Analysis;
 use slotted_languages::Language;
 use slotted_proofs::ProvenEq;
 use slotted_slots::Error;

@@ -7,7 +7,7 @@ ghost use Rattle.slotted_graph.specs.Analysed.{AbsorbsValue, MergesData};
 ghost use Rattle.slotted_graph.specs.Writing.{IfUnmodified, LeavesAskedWith, MergesAndModifies};
 
 use crate::egraph::EGraph;
-use slotted_analyses::Analysis;
+use slotted_data::Analysis;
 use slotted_languages::Language;
 use slotted_slots::{Error, Id};
 

@@ -8,7 +8,7 @@ ghost use Rattle.slotted_graph.specs.Rounds.{LeavesModified, MakesRounds, Modifi
 
 use crate::egraph::EGraph;
 use crate::modifying::modify_class;
-use slotted_analyses::Analysis;
+use slotted_data::Analysis;
 use slotted_languages::Language;
 use slotted_slots::{Error, Id};
 use std::alloc::Global;

@@ -15,7 +15,7 @@ ghost use Rattle.slotted_graph.specs.Measure.{NeverRises};
 ghost use Rattle.slotted_graph.specs.Writing.{IfUnmodified, UnitesAndModifies};
 
 use crate::egraph::EGraph;
-use slotted_analyses::Analysis;
+use slotted_data::Analysis;
 use slotted_languages::Language;
 use slotted_slots::{AppliedId, Error};
 

@@ -8,7 +8,7 @@ use Rattle.slotted_slots.specs.Table.{empty_table}
 use Rattle.slotted_nodes.specs.Form.{Form}
 use Rattle.slotted_operations.specs.Graph.{Graph}
 use Rattle.slotted_graph.specs.Analysed.{new_graph}
-use Rattle.slotted_analyses.specs.Meaning.{unit_code}
+use Rattle.slotted_data.specs.Meaning.{unit_code}
 use Rattle.slotted_rules.specs.Written.{CanBeSearched}
 use Rattle.slotted_rules.specs.declared.condition.Always.{Always}
 use Rattle.slotted_rules.specs.declared.rewrite.Rewrite.{Rewrite}

@@ -21,7 +21,7 @@ use Rattle.slotted_model.specs.Ids.{id_of}
 use Rattle.slotted_model.specs.ProofList.{Equation, equation_of, equation_at}
 use Rattle.slotted_classes.specs.Finding.{FindAlike}
 use Rattle.slotted_classes.specs.Kept.{Kept, entries_of, nodes_of}
-use Rattle.slotted_unions.specs.Proving.{ProvesEqual}
+use Rattle.slotted_rebuilding.specs.Proving.{ProvesEqual}
 use Rattle.slotted_hashcons.specs.FiledRows.{Rows}
 use Rattle.slotted_hashcons.specs.WellFiled.{state_in}
 use Rattle.slotted_operations.specs.Causes.{HasLargeClassIn, HasLargeClassOf}

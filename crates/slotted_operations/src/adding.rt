@@ -26,10 +26,10 @@ use slotted_hashcons::Hashcons;
 use slotted_languages::Language;
 use slotted_languages::shape::PLACES;
 use slotted_rebuilding::newest::file_newest;
+use slotted_rebuilding::unions::shortening::compress_paths;
 use slotted_slots::{AppliedId, Error, Id, SlotMap, SlotTable};
 use slotted_terms::expr::RecExpr;
 use slotted_terms::flat::flatten;
-use slotted_unions::shortening::compress_paths;
 use std::alloc::Global;
 
 // Tests.

@@ -7,7 +7,7 @@ ghost use Rattle.slotted_proofs.specs.Equations.{to_applied};
 ghost use Rattle.slotted_terms.specs.Valid.{IsWhole};
 ghost use Rattle.slotted_classes.specs.Finding.{FindAlike};
 ghost use Rattle.slotted_classes.specs.Kept.{nodes_of, entries_of};
-ghost use Rattle.slotted_unions.specs.Proving.{HasLargeClassOf};
+ghost use Rattle.slotted_rebuilding.specs.Proving.{HasLargeClassOf};
 ghost use Rattle.slotted_operations.specs.Explaining.{ExplainsTerms, ProvesIfAlike, RunsOutForTerms};
 ghost use Rattle.slotted_operations.specs.Good.{Good, RestsWith, HasFreshSlots, image_of};
 ghost use Rattle.slotted_operations.specs.Graph.{MakesAtMost};
@@ -18,10 +18,10 @@ use slotted_classes::Store;
 use slotted_hashcons::Hashcons;
 use slotted_languages::Language;
 use slotted_proofs::ProvenEq;
+use slotted_rebuilding::unions::proving::bridge;
+use slotted_rebuilding::unions::shortening::compress_paths;
 use slotted_slots::{AppliedId, Error, SlotTable};
 use slotted_terms::expr::RecExpr;
-use slotted_unions::proving::bridge;
-use slotted_unions::shortening::compress_paths;
 use std::alloc::Global;
 
 /// Returns the proof that two terms are equal, or `None` if their ids are not found equal. The terms are added first.

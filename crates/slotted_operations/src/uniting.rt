@@ -13,9 +13,9 @@ use slotted_classes::Store;
 use slotted_hashcons::Hashcons;
 use slotted_languages::Language;
 use slotted_rebuilding::rebuilding::rebuild;
+use slotted_rebuilding::unions::shortening::compress_paths;
 use slotted_rebuilding::uniting::unite;
 use slotted_slots::{AppliedId, Error};
-use slotted_unions::shortening::compress_paths;
 use std::alloc::Global;
 
 /// Asserts that two ids are equal, with a text or without one, and rebuilds. Returns true if they were not found

@@ -5,7 +5,7 @@ ghost use Rattle.slotted_operations.specs.Graph.{MakesAtMost, OnlyTakesSlots};
 ghost use Rattle.slotted_graph.specs.FiledNodes.{CanRunOutForDump, CanRunOutForEnodes, IsAppended, slots_for_dump, slots_for_enodes};
 
 use crate::quoting::{push_quoted, push_slot};
-use slotted_analyses::Analysis;
+use slotted_data::Analysis;
 use slotted_graph::EGraph;
 use slotted_languages::Language;
 use slotted_slots::{AppliedId, Error, Id, Slot, SlotTable, SmallHashSet, SyntaxElem};

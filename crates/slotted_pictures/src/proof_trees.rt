@@ -4,7 +4,7 @@ ghost use Rattle.slotted_slots.specs.Error.{IsOutOfMemory};
 ghost use Rattle.slotted_graph.specs.FiledNodes.{IsAppended};
 
 use crate::quoting::{push_id, push_quoted};
-use slotted_analyses::Analysis;
+use slotted_data::Analysis;
 use slotted_graph::EGraph;
 use slotted_languages::Language;
 use slotted_proofs::{Equation, Proof, ProofLines, ProofList, ProvenEq};

@@ -1,7 +1,7 @@
 //! The condition on predicates, by which they go to one side of a join.
 ghost use Rattle.std.specs.Prelude.{◌≡◌};
 
-use slotted_analyses::Analysis;
+use slotted_data::Analysis;
 use slotted_graph::EGraph;
 use slotted_languages::Language;
 use slotted_patterns::Pattern;

@@ -12,8 +12,8 @@ ghost use Rattle.slotted_rules.specs.Written.{CanBeSearched};
 ghost use Rattle.slotted_rules.specs.Seen.{parts_of};
 ghost use Rattle.slotted_queries.specs.Planning.{FindsLeast, FindsPlan, Gives, GiveRefused, LeastRefused, PlanRefused, RunsRules};
 
-use slotted_analyses::Analysis;
 use slotted_costs::CostFunction;
+use slotted_data::Analysis;
 use slotted_extract::extract_by;
 use slotted_graph::EGraph;
 use slotted_languages::Language;

@@ -20,11 +20,11 @@ use Rattle.slotted_proofs.specs.Steps.{AreEntries, IsEntry, by_step}
 use Rattle.slotted_proofs.proofs.Fitting.{congruent_fits, own}
 use Rattle.slotted_proofs.proofs.Stepping.{states-entry}
 use Rattle.slotted_classes.specs.Kept.{Kept, nodes_of, entries_of, with_proofs, EntersBy}
-use Rattle.slotted_unions.specs.Proving.{OnlyProves, Proves, ProvesEqual}
+use Rattle.slotted_rebuilding.specs.Proving.{OnlyProves, Proves, ProvesEqual}
 use Rattle.slotted_classes.specs.StateOf.{state_of}
 use Rattle.slotted_classes.specs.Stored.{Stored}
-use Rattle.slotted_unions.proofs.EnteredProofs.{entering-proves, nothing-proved, only-nodes, only-stands, proved-then, proves-stands}
-use Rattle.slotted_unions.proofs.JoinedIds.{written_sides}
+use Rattle.slotted_rebuilding.proofs.EnteredProofs.{entering-proves, nothing-proved, only-nodes, only-stands, proved-then, proves-stands}
+use Rattle.slotted_rebuilding.proofs.JoinedIds.{written_sides}
 use Rattle.slotted_rebuilding.specs.Congruence.{IsOfAlike, AreTwins, AreChildrenOf, ProvesSides, ProvesEach, ProvesTwins}
 
 -- the sides of an equation find alike so long as only proofs are entered

@@ -19,7 +19,7 @@ use Rattle.slotted_hashcons.specs.FiledRows.{HasChildrenBelow, Rows, TakesTurn, 
 use Rattle.slotted_hashcons.proofs.FiledRows.{child_classes-shape, filed-row, row-filed, source-filed}
 use Rattle.slotted_hashcons.specs.FoundNodes.{IsFoundNode, finds_of}
 use Rattle.slotted_hashcons.specs.Sides.{HaveOneShape}
-use Rattle.slotted_unions.proofs.KeptSlots.{grows-then}
+use Rattle.slotted_rebuilding.proofs.KeptSlots.{grows-then}
 use Rattle.slotted_hashcons.specs.WellFiled.{state_in, IsKeyed, IsWellFiled}
 use Rattle.slotted_rebuilding.specs.Turns.{NarrowsTo, SharesKey, TakesTurns}
 use Rattle.slotted_languages.proofs.KeysByShapes.{one-key}

@@ -10,12 +10,12 @@ use Rattle.slotted_model.proofs.Rebuilding.Lacking.{narrow-lacks}
 use Rattle.slotted_classes.specs.Kept.{Kept, proofs_of}
 use Rattle.slotted_classes.proofs.KeptLists.{length-proofs_of}
 use Rattle.slotted_hashcons.specs.FiledRows.{Rows, rows_in}
-use Rattle.slotted_unions.specs.Proving.{OnlyProves, HasLargeSide}
+use Rattle.slotted_rebuilding.specs.Proving.{OnlyProves, HasLargeSide}
 use Rattle.slotted_classes.specs.StateOf.{state_of}
-use Rattle.slotted_unions.specs.Uniting.{equation_in}
-use Rattle.slotted_unions.proofs.EnteredProofs.{only-state, only-grows}
-use Rattle.slotted_unions.proofs.GrownRows.{grown-rows, grown-count}
-use Rattle.slotted_unions.proofs.KeptSlots.{grows-then}
+use Rattle.slotted_rebuilding.specs.Uniting.{equation_in}
+use Rattle.slotted_rebuilding.proofs.EnteredProofs.{only-state, only-grows}
+use Rattle.slotted_rebuilding.proofs.GrownRows.{grown-rows, grown-count}
+use Rattle.slotted_rebuilding.proofs.KeptSlots.{grows-then}
 use Rattle.slotted_rebuilding.specs.Causes.{HasLargeClass}
 use Rattle.slotted_hashcons.specs.WellFiled.{state_in, IsWellFiled}
 use Rattle.slotted_rebuilding.specs.Filed.{UnitesFiled}

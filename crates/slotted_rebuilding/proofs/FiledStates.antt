@@ -14,8 +14,8 @@ use Rattle.slotted_languages.specs.Shape.{Fits}
 use Rattle.slotted_nodes.specs.Form.{Form}
 use Rattle.slotted_hashcons.specs.FoundNodes.{HasNoMorePlaces}
 use Rattle.slotted_classes.specs.StateOf.{state_with}
-use Rattle.slotted_unions.specs.Grows.{Grows}
-use Rattle.slotted_unions.proofs.GrownRows.{grown-rows, grown-count}
+use Rattle.slotted_rebuilding.specs.Grows.{Grows}
+use Rattle.slotted_rebuilding.proofs.GrownRows.{grown-rows, grown-count}
 use Rattle.slotted_hashcons.specs.WellFiled.{state_in, IsWellFiled}
 use Rattle.slotted_rebuilding.specs.Filed.{UnitesFiled}
 use Rattle.slotted_rebuilding.specs.Turns.{IsFirst}

@@ -6,10 +6,10 @@ use Rattle.slotted_model.specs.Changes.{Unites}
 use Rattle.slotted_model.specs.State.{HasTouched}
 use Rattle.slotted_classes.specs.Kept.{Kept}
 use Rattle.slotted_hashcons.specs.FiledRows.{Rows, WaitsOn, rows_in, rows_state}
-use Rattle.slotted_unions.specs.declared.uniting.UnionStep.TheVariants.{Done, Dropped, Linked}
-use Rattle.slotted_unions.specs.Uniting.{StepsBy}
-use Rattle.slotted_unions.proofs.ChangedEntries.{untouched}
-use Rattle.slotted_unions.proofs.UniteSteps.{lost-unites}
+use Rattle.slotted_rebuilding.specs.declared.unions.uniting.UnionStep.TheVariants.{Done, Dropped, Linked}
+use Rattle.slotted_rebuilding.specs.Uniting.{StepsBy}
+use Rattle.slotted_rebuilding.proofs.ChangedEntries.{untouched}
+use Rattle.slotted_rebuilding.proofs.UniteSteps.{lost-unites}
 use Rattle.slotted_hashcons.specs.WellFiled.{state_in}
 use Rattle.slotted_rebuilding.specs.Filed.{UnitesFiled}
 use Rattle.slotted_rebuilding.proofs.FiledStates.{same-rows, touched-in, waits-nothing, waits-then}

@@ -13,10 +13,10 @@ use Rattle.slotted_proofs.specs.declared.equation.Equation.{Equation as Sides}
 use Rattle.slotted_proofs.specs.Equations.{to_applied}
 use Rattle.slotted_classes.specs.Kept.{Kept, nodes_of}
 use Rattle.slotted_classes.proofs.KeptLists.{length-nodes_of}
-use Rattle.slotted_unions.specs.Proving.{HasLargeClassOf}
-use Rattle.slotted_unions.specs.Settling.{HasLargeUnaligned}
-use Rattle.slotted_unions.specs.Grows.{Grows}
-use Rattle.slotted_unions.proofs.GrownRows.{grown-count}
+use Rattle.slotted_rebuilding.specs.Proving.{HasLargeClassOf}
+use Rattle.slotted_rebuilding.specs.Settling.{HasLargeUnaligned}
+use Rattle.slotted_rebuilding.specs.Grows.{Grows}
+use Rattle.slotted_rebuilding.proofs.GrownRows.{grown-count}
 use Rattle.slotted_rebuilding.specs.Congruence.{AreTwins, TwinsRunOut}
 use Rattle.slotted_rebuilding.specs.Named.{IsWideClass}
 use Rattle.slotted_rebuilding.specs.Causes.{HasLargeClass}

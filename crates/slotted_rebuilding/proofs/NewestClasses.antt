@@ -23,10 +23,10 @@ use Rattle.slotted_hashcons.specs.FiledRows.{IsFiled, QueuesUp, Rows, row_of_ent
 use Rattle.slotted_hashcons.proofs.FiledRows.{row-filed, rows-added, rows-added_filed, source-filed}
 use Rattle.slotted_hashcons.proofs.Indexed.{place-added}
 use Rattle.slotted_hashcons.specs.FoundNodes.{HasNoMorePlaces, IsFoundNode, finds_of}
-use Rattle.slotted_unions.specs.Proving.{OnlyProves}
+use Rattle.slotted_rebuilding.specs.Proving.{OnlyProves}
 use Rattle.slotted_classes.specs.StateOf.{state_with}
-use Rattle.slotted_unions.proofs.EnteredProofs.{only-grows, only-state, nothing-proved}
-use Rattle.slotted_unions.proofs.KeptSlots.{grows-then, uncounted-then}
+use Rattle.slotted_rebuilding.proofs.EnteredProofs.{only-grows, only-state, nothing-proved}
+use Rattle.slotted_rebuilding.proofs.KeptSlots.{grows-then, uncounted-then}
 use Rattle.slotted_rebuilding.specs.Counted.{CountsFit, CountsGo, TotalsFit}
 use Rattle.slotted_hashcons.specs.WellFiled.{state_in, IsKeyed, IsWellFiled}
 use Rattle.slotted_rebuilding.specs.Filed.{UnitesFiled}

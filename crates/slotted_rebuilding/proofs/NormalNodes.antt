@@ -19,8 +19,8 @@ use Rattle.slotted_classes.proofs.KeptLists.{length-nodes_of}
 use Rattle.slotted_hashcons.specs.Filed.{filed_of}
 use Rattle.slotted_hashcons.specs.FiledRows.{IsFiled, Rows, row_of_entry, rows_in}
 use Rattle.slotted_hashcons.proofs.FiledRows.{row-filed, source-filed}
-use Rattle.slotted_unions.proofs.KeptSlots.{grows-then}
-use Rattle.slotted_unions.proofs.EnteredProofs.{only-grows, nothing-proved}
+use Rattle.slotted_rebuilding.proofs.KeptSlots.{grows-then}
+use Rattle.slotted_rebuilding.proofs.EnteredProofs.{only-grows, nothing-proved}
 use Rattle.slotted_hashcons.specs.FoundNodes.{FilesNode, HasNoMorePlaces, IsFoundNode, finds_of}
 use Rattle.slotted_hashcons.specs.NormalNodes.{HasFindableChildren}
 use Rattle.slotted_hashcons.specs.Sides.{AreTwinSides}

@@ -7,7 +7,7 @@ use Rattle.slotted_classes.specs.Counts.{Counts, noted}
 use Rattle.slotted_classes.specs.Kept.{Kept, size_of, with_counts}
 use Rattle.slotted_classes.specs.Stored.{Stored}
 use Rattle.slotted_hashcons.specs.FiledRows.{Rows, rows_in}
-use Rattle.slotted_unions.proofs.KeptSlots.{grows-then, grows-uncounted}
+use Rattle.slotted_rebuilding.proofs.KeptSlots.{grows-then, grows-uncounted}
 use Rattle.slotted_hashcons.specs.WellFiled.{state_in, IsWellFiled}
 use Rattle.slotted_rebuilding.specs.Filed.{SettlesFiled}
 use Rattle.slotted_rebuilding.specs.Turns.{Rebuilds, RebuildsAll, RebuildsSoFar, TakesTurns}

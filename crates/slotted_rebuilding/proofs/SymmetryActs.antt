@@ -8,10 +8,10 @@ use Rattle.slotted_classes.specs.Kept.{Kept, node_at, rows_from, with_settled}
 use Rattle.slotted_hashcons.specs.Filed.{Filing, filed_of}
 use Rattle.slotted_hashcons.specs.FiledRows.{Rows}
 use Rattle.slotted_hashcons.specs.FoundNodes.{HasNoMorePlaces}
-use Rattle.slotted_unions.specs.Settling.{AreAligned, IsUnaligned}
-use Rattle.slotted_unions.proofs.EnteredProofs.{only-grows, nothing-proved}
-use Rattle.slotted_unions.proofs.KeptSlots.{grows-then}
-use Rattle.slotted_unions.proofs.SettlingSteps.{settled-grows, settled-stored, unaligned-within}
+use Rattle.slotted_rebuilding.specs.Settling.{AreAligned, IsUnaligned}
+use Rattle.slotted_rebuilding.proofs.EnteredProofs.{only-grows, nothing-proved}
+use Rattle.slotted_rebuilding.proofs.KeptSlots.{grows-then}
+use Rattle.slotted_rebuilding.proofs.SettlingSteps.{settled-grows, settled-stored, unaligned-within}
 use Rattle.slotted_hashcons.specs.WellFiled.{state_in, IsWellFiled}
 use Rattle.slotted_rebuilding.specs.Filed.{UnitesFiled, SettlesFiled}
 use Rattle.slotted_rebuilding.proofs.FiledStates.{united-well, waits-nothing, waits-then}

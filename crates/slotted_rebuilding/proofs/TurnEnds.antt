@@ -17,10 +17,10 @@ use Rattle.slotted_classes.specs.Kept.{Kept}
 use Rattle.slotted_hashcons.specs.Filed.{Filing, filed_of}
 use Rattle.slotted_hashcons.specs.FiledRows.{Rows, rows_in, row_of_entry, TakesTurn}
 use Rattle.slotted_hashcons.proofs.FiledRows.{row-filed, rows-removed, rows-refiled, without-front}
-use Rattle.slotted_unions.specs.Proving.{OnlyProves}
+use Rattle.slotted_rebuilding.specs.Proving.{OnlyProves}
 use Rattle.slotted_classes.specs.StateOf.{state_with}
-use Rattle.slotted_unions.proofs.EnteredProofs.{only-grows, nothing-proved}
-use Rattle.slotted_unions.proofs.KeptSlots.{grows-then}
+use Rattle.slotted_rebuilding.proofs.EnteredProofs.{only-grows, nothing-proved}
+use Rattle.slotted_rebuilding.proofs.KeptSlots.{grows-then}
 use Rattle.slotted_hashcons.specs.WellFiled.{state_in, IsWellFiled, IsKeyed}
 use Rattle.slotted_rebuilding.specs.Filed.{UnitesFiled}
 use Rattle.slotted_rebuilding.specs.Turns.{ProvesCongruence, TakesTurns}

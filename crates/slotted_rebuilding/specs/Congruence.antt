@@ -16,7 +16,7 @@ use Rattle.slotted_proofs.specs.Equations.{to_applied, statement_of}
 use Rattle.slotted_proofs.specs.Steps.{HasInjectiveSides, IsLarge}
 use Rattle.slotted_classes.specs.Finding.{FindAlike}
 use Rattle.slotted_classes.specs.Kept.{Kept, nodes_of, entries_of}
-use Rattle.slotted_unions.specs.Proving.{OnlyProves, HasLargeClassOf}
+use Rattle.slotted_rebuilding.specs.Proving.{OnlyProves, HasLargeClassOf}
 use Rattle.slotted_classes.specs.StateOf.{state_of}
 use Rattle.slotted_rebuilding.specs.Named.{HasWideSide, SidesRunOut}
 

@@ -7,8 +7,8 @@ use Rattle.slotted_model.specs.Rebuild.{Runs}
 use Rattle.slotted_classes.specs.Kept.{Kept}
 use Rattle.slotted_hashcons.specs.FiledRows.{Rows, WaitsOn}
 use Rattle.slotted_hashcons.specs.WellFiled.{state_in, IsWellFiled}
-use Rattle.slotted_unions.specs.Grows.{Grows}
-use Rattle.slotted_unions.specs.Uniting.{UnitesBy}
+use Rattle.slotted_rebuilding.specs.Grows.{Grows}
+use Rattle.slotted_rebuilding.specs.Uniting.{UnitesBy}
 
 -- the union by the entry p leads from one to the other, and the nodes over each class that changed wait
 pub record UnitesFiled (p : ℕ) (k : Kept) (r : Rows) (l : Kept) (q : Rows) : Type 0 where

@@ -8,3 +8,8 @@ pub mod Counted
 pub mod Causes
 pub mod Turns
 pub mod NewClasses
+pub mod Proving
+pub mod Uniting
+pub mod Settling
+pub mod Grows
+pub mod Shortcuts

@@ -15,7 +15,7 @@ use Rattle.slotted_hashcons.specs.Filed.{Filing, filed_of}
 use Rattle.slotted_hashcons.specs.FiledRows.{Rows, with_class}
 use Rattle.slotted_hashcons.specs.FoundNodes.{HasNoMorePlaces}
 use Rattle.slotted_classes.specs.Stored.{Stored}
-use Rattle.slotted_unions.specs.Grows.{Grows, GrowsUncounted}
+use Rattle.slotted_rebuilding.specs.Grows.{Grows, GrowsUncounted}
 use Rattle.slotted_rebuilding.specs.Counted.{CountsFit, CountsGo, TotalsFit}
 use Rattle.slotted_hashcons.specs.WellFiled.{state_in, IsKeyed, IsWellFiled}
 

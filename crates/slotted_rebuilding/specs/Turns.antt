@@ -21,9 +21,9 @@ use Rattle.slotted_hashcons.specs.Filed.{HasKey}
 use Rattle.slotted_hashcons.specs.FoundNodes.{IsFoundNode, finds_of}
 use Rattle.slotted_classes.specs.Kept.{Kept}
 use Rattle.slotted_hashcons.specs.FiledRows.{Rows, WaitsOn}
-use Rattle.slotted_unions.specs.Proving.{OnlyProves}
+use Rattle.slotted_rebuilding.specs.Proving.{OnlyProves}
 use Rattle.slotted_classes.specs.StateOf.{state_of}
-use Rattle.slotted_unions.specs.Grows.{Grows, GrowsUncounted}
+use Rattle.slotted_rebuilding.specs.Grows.{Grows, GrowsUncounted}
 use Rattle.slotted_rebuilding.specs.Counted.{NotesRebuild}
 use Rattle.slotted_hashcons.specs.WellFiled.{state_in, IsWellFiled}
 

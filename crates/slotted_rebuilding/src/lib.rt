@@ -1,4 +1,4 @@
-//! Rebuilding: pending classes take their turns, until equal e-nodes are of one class.
+//! Unions, and rebuilding: pending classes take their turns, until equal e-nodes are of one class.
 #![tactic(auto)]
 
 pub mod named;
@@ -8,4 +8,5 @@ pub mod rebuilding;
 pub mod settling;
 pub mod turning;
 pub mod twins;
+pub mod unions;
 pub mod uniting;

@@ -2,16 +2,16 @@
 //! pending.
 ghost use Rattle.std.specs.Prelude.{IfErr, IsErrOf, OnOk};
 ghost use Rattle.slotted_slots.specs.Error.{IsShortage};
-ghost use Rattle.slotted_unions.specs.Settling.{HasLargeUnaligned};
+ghost use Rattle.slotted_rebuilding.specs.Settling.{HasLargeUnaligned};
 ghost use Rattle.slotted_hashcons.specs.WellFiled.{IsWellFiled};
 ghost use Rattle.slotted_rebuilding.specs.Filed.{SettlesFiled};
 
+use crate::unions::settling::next_unaligned;
 use crate::uniting::unite;
 use slotted_classes::Store;
 use slotted_hashcons::Hashcons;
 use slotted_languages::Language;
 use slotted_slots::Error;
-use slotted_unions::settling::next_unaligned;
 use std::alloc::Global;
 
 /// Acts on listed symmetries that are not aligned, one after another, until each is aligned.

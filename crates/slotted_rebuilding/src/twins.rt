@@ -7,12 +7,12 @@ ghost use Rattle.slotted_rebuilding.specs.Congruence.{IsOfAlike, AreTwins, AreCh
 ghost use Rattle.slotted_rebuilding.specs.Named.{HasWideSide};
 
 use crate::named::named_node;
+use crate::unions::proving::bridge;
 use slotted_alike::alike::child_equations;
 use slotted_classes::Store;
 use slotted_languages::Language;
 use slotted_proofs::{Equation, ProvenEq};
 use slotted_slots::Error;
-use slotted_unions::proving::bridge;
 use std::alloc::Global;
 
 /// Returns the proofs of equations of full ids that are found equal, one for each equation.

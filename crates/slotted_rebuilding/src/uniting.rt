@@ -1,17 +1,17 @@
 //! Union by an entry, after which the e-nodes over each class that changed are pending.
 ghost use Rattle.std.specs.Prelude.{◌≡◌, ◌<◌, length, IfErr, IsErrOf, OnOk};
 ghost use Rattle.slotted_slots.specs.Error.{IsShortage};
-ghost use Rattle.slotted_unions.specs.Proving.{HasLargeSide};
+ghost use Rattle.slotted_rebuilding.specs.Proving.{HasLargeSide};
 ghost use Rattle.slotted_classes.specs.Stored.{Stored};
-ghost use Rattle.slotted_unions.specs.Uniting.{equation_in};
+ghost use Rattle.slotted_rebuilding.specs.Uniting.{equation_in};
 ghost use Rattle.slotted_rebuilding.specs.Filed.{UnitesFiled};
 
+use crate::unions::uniting::{UnionStep, unite_once};
 use slotted_classes::Store;
 use slotted_hashcons::Hashcons;
 use slotted_languages::Language;
 use slotted_proofs::ProvenEq;
 use slotted_slots::Error;
-use slotted_unions::uniting::{UnionStep, unite_once};
 use std::alloc::Global;
 
 /// Unites the live classes of the sides of an entry: what the entry says of them holds from now on, up to listed

@@ -4,7 +4,7 @@ use Rattle.std.specs.Prelude.{◌⊎◌, Bool, true, false, IsTrue, slice_index_
 use Rattle.std.specs.Coded.{Coded}
 use Rattle.std.specs.Int.{from_bool}
 use Rattle.std.proofs.lemmas.Bool.{false≢true}
-use Rattle.slotted_analyses.specs.Meaning.{IsMergeOf, Meaning}
+use Rattle.slotted_data.specs.Meaning.{IsMergeOf, Meaning}
 use Rattle.slotted_patterns.specs.Tree.{PatternTree}
 use Rattle.slotted_model_rules.specs.Conditions.{Values}
 use Rattle.slotted_graph.specs.Analysed.{LowersData}

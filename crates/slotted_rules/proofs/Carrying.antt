@@ -4,7 +4,7 @@ use Rattle.std.specs.Prelude.{◌⊎◌, Err, false, IsErr, IsTrue, Ok, OnOk, Re
 use Rattle.std.specs.Coded.{Coded}
 use Rattle.std.proofs.lemmas.Bool.{false≢true}
 use Rattle.slotted_model.specs.Growth.{Extends}
-use Rattle.slotted_analyses.specs.Meaning.{IsMergeOf, Meaning}
+use Rattle.slotted_data.specs.Meaning.{IsMergeOf, Meaning}
 use Rattle.slotted_data.specs.Part.{NotesChanges, Part, part_code}
 use Rattle.slotted_graph.specs.Analysed.{CarriesData, KeepsPart, LowersData}
 use Rattle.slotted_graph.specs.Extension.{ExtendsTo}

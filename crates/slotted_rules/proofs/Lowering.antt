@@ -2,7 +2,7 @@
 use Rattle.std.proofs.Common.{inl, inr}
 use Rattle.std.specs.Prelude.{◌⊎◌, IsTrue}
 use Rattle.std.specs.Coded.{Coded}
-use Rattle.slotted_analyses.specs.Meaning.{IsMergeOf, Meaning}
+use Rattle.slotted_data.specs.Meaning.{IsMergeOf, Meaning}
 use Rattle.slotted_operations.specs.Graph.{Graph}
 use Rattle.slotted_graph.specs.Analysed.{LowersData}
 use Rattle.slotted_graph.specs.Extension.{ExtendsTo}

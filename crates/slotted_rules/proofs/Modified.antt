@@ -2,7 +2,7 @@
 use Rattle.std.proofs.Common.{◌≡◌, true, false, Result, Ok, Err, IfOk, refl, sym, subst}
 use Rattle.std.specs.Prelude.{Bool}
 use Rattle.std.specs.Coded.{Coded}
-use Rattle.slotted_analyses.specs.Meaning.{Meaning, no_data, unit_code}
+use Rattle.slotted_data.specs.Meaning.{Meaning, no_data, unit_code}
 use Rattle.slotted_slots.specs.declared.error.Error.{Error}
 use Rattle.slotted_operations.specs.Graph.{Graph}
 use Rattle.slotted_graph.specs.Asked.{Asks}

@@ -15,7 +15,7 @@ use Rattle.slotted_reports.specs.declared.measure.ProgressMeasure.{ProgressMeasu
 use Rattle.slotted_model_rules.specs.Runners.{AppliesAll, SearchesAll}
 use Rattle.slotted_operations.specs.Graph.{Graph}
 use Rattle.slotted_operations.specs.Image.{Image}
-use Rattle.slotted_analyses.specs.Meaning.{Meaning, no_data, unit_code}
+use Rattle.slotted_data.specs.Meaning.{Meaning, no_data, unit_code}
 use Rattle.slotted_graph.specs.Asked.{Asks}
 use Rattle.slotted_graph.specs.Measure.{IsProgress}
 use Rattle.slotted_graph.specs.Rounds.{IsModified}

@@ -3,7 +3,7 @@
 --                                                     went down
 use Rattle.std.specs.Prelude.{Bool}
 use Rattle.std.specs.Coded.{Coded}
-use Rattle.slotted_analyses.specs.Meaning.{Meaning}
+use Rattle.slotted_data.specs.Meaning.{Meaning}
 use Rattle.slotted_model_rules.specs.Conditions.{Values}
 use Rattle.slotted_graph.specs.Analysed.{LowersData}
 use Rattle.slotted_graph.specs.Extension.{IsBetween}

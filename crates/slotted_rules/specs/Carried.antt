@@ -3,7 +3,7 @@
 --                                      If P, what was made or has changed waits to be modified
 --     CarriesAlong codes meaning g h   the same without a premise
 use Rattle.std.specs.Coded.{Coded}
-use Rattle.slotted_analyses.specs.Meaning.{Meaning}
+use Rattle.slotted_data.specs.Meaning.{Meaning}
 use Rattle.slotted_data.specs.Part.{NotesChanges, Part}
 use Rattle.slotted_graph.specs.Analysed.{KeepsPart, LowersData}
 use Rattle.slotted_graph.specs.Graph.{Graph}

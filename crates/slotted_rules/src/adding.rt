@@ -11,7 +11,7 @@ ghost use Rattle.slotted_graph.specs.ValidIds.{IsValidId};
 ghost use Rattle.slotted_rules.specs.Building.{Builds};
 ghost use Rattle.slotted_rules.specs.Carried.{CarriesAlong};
 
-use slotted_analyses::Analysis;
+use slotted_data::Analysis;
 use slotted_graph::EGraph;
 use slotted_languages::Language;
 use slotted_languages::shape::PLACES;

@@ -11,7 +11,7 @@ ghost use Rattle.slotted_rules.specs.Applying.{StopsApplying, StopsSearching, Th
 use crate::failing::failing;
 use crate::modifying::modify_classes;
 use crate::rule::RewriteT;
-use slotted_analyses::Analysis;
+use slotted_data::Analysis;
 use slotted_graph::EGraph;
 use slotted_languages::Language;
 use slotted_slots::Error;

@@ -6,7 +6,7 @@ ghost use Rattle.slotted_rules.specs.Rewriting.{CanBeApplied, IsRefusedRewrite, 
 ghost use Rattle.slotted_rules.specs.Written.{CanBeSearched, PassesTests};
 
 use crate::{Cond, Rewrite, RewriteT};
-use slotted_analyses::Analysis;
+use slotted_data::Analysis;
 use slotted_graph::EGraph;
 use slotted_languages::Language;
 use slotted_matching::Matches;

@@ -21,7 +21,7 @@ use crate::adding::add_node;
 use crate::listed::Listed;
 use crate::method::OwnSubst;
 use crate::over::over_last;
-use slotted_analyses::Analysis;
+use slotted_data::Analysis;
 use slotted_graph::EGraph;
 use slotted_languages::Language;
 use slotted_patterns::Pattern;

@@ -9,7 +9,7 @@ ghost use Rattle.slotted_rules.specs.Turning.{Calls, RefusesTurn, RulesOnce};
 
 use crate::hook::{Hook, HookStop};
 use crate::{RewriteT, apply_rewrites};
-use slotted_analyses::Analysis;
+use slotted_data::Analysis;
 use slotted_graph::EGraph;
 use slotted_languages::Language;
 use slotted_slots::Error;

@@ -7,7 +7,7 @@ ghost use Rattle.slotted_rules.specs.Asking.{AnswersBoth, AnswersEither, Answers
 ghost use Rattle.slotted_rule_patterns.specs.Values.{values_of};
 ghost use Rattle.slotted_graph.specs.Matching.{AreValidValues};
 
-use slotted_analyses::Analysis;
+use slotted_data::Analysis;
 use slotted_graph::EGraph;
 use slotted_languages::Language;
 use slotted_rule_patterns::Subst;

@@ -4,7 +4,7 @@ ghost use Rattle.slotted_rule_patterns.specs.Values.{values_of};
 ghost use Rattle.slotted_rules.specs.TreeAnswers.{AnswersTree, TreeRefuses, outcome};
 
 use crate::condition::{Cond, SlotFreeIn};
-use slotted_analyses::Analysis;
+use slotted_data::Analysis;
 use slotted_graph::EGraph;
 use slotted_languages::Language;
 use slotted_rule_patterns::Subst;

@@ -10,7 +10,7 @@ ghost use Rattle.slotted_rules.specs.Counted.{BreaksTurns, TakesTurns};
 
 use crate::failing::failing;
 use crate::{Cond, Rewrite, TurnCounts, apply_counted};
-use slotted_analyses::Analysis;
+use slotted_data::Analysis;
 use slotted_graph::EGraph;
 use slotted_languages::Language;
 use slotted_slots::Error;

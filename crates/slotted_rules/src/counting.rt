@@ -17,7 +17,7 @@ use crate::failing::failing;
 use crate::modifying::modify_classes;
 use crate::rewrite::Rewrite;
 use crate::written::apply_matches;
-use slotted_analyses::Analysis;
+use slotted_data::Analysis;
 use slotted_graph::EGraph;
 use slotted_languages::Language;
 use slotted_matching::Matches;

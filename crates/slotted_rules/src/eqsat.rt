@@ -18,7 +18,7 @@ use crate::clock::Clock;
 use crate::failing::failing;
 use crate::hook::Hook;
 use crate::report::{Report, StopReason};
-use slotted_analyses::Analysis;
+use slotted_data::Analysis;
 use slotted_graph::EGraph;
 use slotted_languages::Language;
 use slotted_slots::Error;

@@ -18,7 +18,7 @@ ghost use Rattle.slotted_rules.specs.Refusals.{RefusesInstance, RefusesMissing};
 
 use crate::refusals::{check_values, failing};
 use crate::stored::build_stored;
-use slotted_analyses::Analysis;
+use slotted_data::Analysis;
 use slotted_graph::EGraph;
 use slotted_languages::Language;
 use slotted_patterns::Pattern;

@@ -2,7 +2,7 @@
 ghost use Rattle.std.specs.Prelude.{◌≡◌, ◌⊎◌, false, IfOk, IfErr};
 ghost use Rattle.slotted_slots.specs.Error.{IsShortage};
 
-use slotted_analyses::Analysis;
+use slotted_data::Analysis;
 use slotted_graph::EGraph;
 use slotted_languages::Language;
 use slotted_slots::Error;

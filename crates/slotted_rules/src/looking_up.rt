@@ -10,7 +10,7 @@ ghost use Rattle.slotted_graph.specs.ValidIds.{IsValidNode};
 ghost use Rattle.slotted_rules.specs.Stacked.{ids_before, over_ids};
 
 use crate::over::over_last;
-use slotted_analyses::Analysis;
+use slotted_data::Analysis;
 use slotted_graph::EGraph;
 use slotted_languages::Language;
 use slotted_languages::shape::PLACES;

@@ -13,7 +13,7 @@ ghost use Rattle.slotted_rules.specs.Carried.{CarriesIf};
 ghost use Rattle.slotted_rules.specs.Methods.{IsKnownMethod, Method, SubstitutesBy, unknown, canonical};
 
 use crate::substitution::replaced;
-use slotted_analyses::Analysis;
+use slotted_data::Analysis;
 use slotted_graph::EGraph;
 use slotted_languages::Language;
 use slotted_slots::{AppliedId, Error};

@@ -16,7 +16,7 @@ use crate::hook::Hook;
 use crate::iteration::IterationData;
 use crate::report::Report;
 use crate::runner::Runner;
-use slotted_analyses::Analysis;
+use slotted_data::Analysis;
 use slotted_languages::Language;
 use slotted_slots::Error;
 

@@ -10,7 +10,7 @@ use crate::hook::{Hook, NoHook};
 use crate::iteration::{Iteration, IterationData};
 use crate::limits::RunnerLimits;
 use crate::report::StopReason;
-use slotted_analyses::Analysis;
+use slotted_data::Analysis;
 use slotted_graph::EGraph;
 use slotted_languages::Language;
 use slotted_slots::{AppliedId, Error, SlotTable};

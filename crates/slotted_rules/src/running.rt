@@ -15,7 +15,7 @@ use crate::clock::Clock;
 use crate::hook::Hook;
 use crate::iteration::{Iteration, IterationData};
 use crate::runner::Runner;
-use slotted_analyses::Analysis;
+use slotted_data::Analysis;
 use slotted_languages::Language;
 use slotted_slots::Error;
 

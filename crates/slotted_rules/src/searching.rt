@@ -10,7 +10,7 @@ ghost use Rattle.slotted_matching.specs.Found.{TakesFor};
 ghost use Rattle.slotted_graph.specs.Matching.{FindsAll};
 ghost use Rattle.slotted_rules.specs.Rewriting.{IsSearched, LacksSlots};
 
-use slotted_analyses::Analysis;
+use slotted_data::Analysis;
 use slotted_graph::EGraph;
 use slotted_languages::Language;
 use slotted_matching::Matches;

@@ -10,7 +10,7 @@ ghost use Rattle.slotted_rules.specs.Substituting.{StandsForReplaced};
 
 use crate::refusals::failing;
 use crate::substitution::replaced;
-use slotted_analyses::Analysis;
+use slotted_data::Analysis;
 use slotted_graph::EGraph;
 use slotted_languages::Language;
 use slotted_slots::{AppliedId, Error};

@@ -15,7 +15,7 @@ ghost use Rattle.slotted_rules.specs.Frames.{KeepsGoal, Opens, TakesAnswer};
 ghost use Rattle.slotted_rules.specs.Substituting.{HasNameBeside, Replaces};
 
 use crate::adding::add_node;
-use slotted_analyses::Analysis;
+use slotted_data::Analysis;
 use slotted_graph::EGraph;
 use slotted_languages::Language;
 use slotted_slots::{AppliedId, Error, SlotMap};

@@ -18,7 +18,7 @@ use crate::iteration::{Iteration, IterationData};
 use crate::limits::RunnerLimits;
 use crate::report::StopReason;
 use crate::runner::Runner;
-use slotted_analyses::Analysis;
+use slotted_data::Analysis;
 use slotted_languages::Language;
 use slotted_slots::Error;
 

@@ -20,7 +20,7 @@ use crate::filling::{are_full, full_values};
 use crate::listed::Listed;
 use crate::refusals::{check_values, failing};
 use crate::stored::build_stored_listed;
-use slotted_analyses::Analysis;
+use slotted_data::Analysis;
 use slotted_graph::EGraph;
 use slotted_languages::Language;
 use slotted_patterns::Pattern;

@@ -15,7 +15,7 @@ use crate::condition::Cond;
 use crate::over::over_last;
 use crate::reading::ReadsNames;
 use crate::rewrite::Rewrite;
-use slotted_analyses::Analysis;
+use slotted_data::Analysis;
 use slotted_graph::EGraph;
 use slotted_languages::Language;
 use slotted_patterns::Pattern;

@@ -21,7 +21,7 @@ ghost use Rattle.slotted_rules.specs.Refusals.{RefusesMissing, RefusesTerm};
 use crate::building::build;
 use crate::method::OwnSubst;
 use crate::refusals::{check_values, failing};
-use slotted_analyses::Analysis;
+use slotted_data::Analysis;
 use slotted_graph::EGraph;
 use slotted_languages::Language;
 use slotted_patterns::Pattern;

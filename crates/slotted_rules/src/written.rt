@@ -27,7 +27,7 @@ use crate::listed::Listed;
 use crate::rewrite::Rewrite;
 use crate::rule::RewriteT;
 use crate::uniting::union_listed;
-use slotted_analyses::Analysis;
+use slotted_data::Analysis;
 use slotted_graph::EGraph;
 use slotted_languages::Language;
 use slotted_matching::Matches;

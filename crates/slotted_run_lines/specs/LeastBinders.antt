@@ -3,7 +3,7 @@ use Rattle.std.specs.Prelude.{refl, ℕ, ◌+◌, min, sum, cond, nat_eq}
 use Rattle.std.specs.Coded.{Coded, coded_ℕ}
 use base.Stored.{gnil}
 use Rattle.slotted_theory.specs.Nameless.{DTerm}
-use Rattle.slotted_analyses.specs.Meaning.{Meaning, IsMergeOf}
+use Rattle.slotted_data.specs.Meaning.{Meaning, IsMergeOf}
 use Rattle.slotted_run_lines.specs.LeastSize.{largest, least_size_merges}
 use Rattle.slotted_run_lines.specs.declared.least_binders.LeastBinders.{LeastBinders}
 

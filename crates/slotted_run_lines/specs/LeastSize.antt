@@ -4,7 +4,7 @@ use Rattle.std.specs.Coded.{Coded, code_by, coded_ℕ}
 use Rattle.std.specs.Prelude.{refl}
 use base.Stored.{gnil}
 use Rattle.std.proofs.Common.{arith}
-use Rattle.slotted_analyses.specs.Meaning.{Meaning, IsMergeOf}
+use Rattle.slotted_data.specs.Meaning.{Meaning, IsMergeOf}
 use Rattle.slotted_run_lines.specs.declared.least_size.LeastSize.{LeastSize}
 use Rattle.slotted_run_lines.specs.declared.refusing.Refusing.{Refusing}
 

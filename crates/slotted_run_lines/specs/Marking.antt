@@ -4,9 +4,9 @@ use Rattle.std.specs.Coded.{Coded, coded_bool}
 use base.Stored.{gnil}
 use Rattle.std.proofs.Common.{arith}
 use Rattle.slotted_theory.specs.Term.{Term, done}
-use Rattle.slotted_analyses.specs.declared.edit.Edit.{Edit}
-use Rattle.slotted_analyses.specs.declared.edit.Edit.TheVariants.{Equate}
-use Rattle.slotted_analyses.specs.Meaning.{Meaning, IsMergeOf}
+use Rattle.slotted_data.specs.declared.edit.Edit.{Edit}
+use Rattle.slotted_data.specs.declared.edit.Edit.TheVariants.{Equate}
+use Rattle.slotted_data.specs.Meaning.{Meaning, IsMergeOf}
 use Rattle.slotted_small.specs.declared.small.Small.{Small}
 use Rattle.slotted_const_fold.specs.ConstFold.{number_term}
 use Rattle.slotted_run_lines.specs.declared.marking.Marking.{Marking}

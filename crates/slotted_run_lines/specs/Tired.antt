@@ -2,7 +2,7 @@
 use Rattle.std.specs.Prelude.{refl}
 use Rattle.std.specs.Coded.{Coded}
 use base.Stored.{gnil}
-use Rattle.slotted_analyses.specs.Meaning.{unit_code}
+use Rattle.slotted_data.specs.Meaning.{unit_code}
 use Rattle.slotted_run_lines.specs.declared.tired.Tired.{Tired}
 
 abbrev pub tired_codes : Coded Tired × Coded (Unit {0})

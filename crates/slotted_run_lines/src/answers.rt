@@ -4,7 +4,7 @@ use crate::datum::Datum;
 use crate::graphs::{datum, explained, has_number, joined, least, merge, parted, put};
 use crate::rebuilds::{rose, stood, write_last};
 use crate::units::apply_unit;
-use slotted_analyses::Analysis;
+use slotted_data::Analysis;
 use slotted_graph::{EGraph, modify_once};
 use slotted_slots::{AppliedId, Error, Id};
 use slotted_small::Small;

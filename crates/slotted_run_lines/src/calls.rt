@@ -2,7 +2,7 @@
 use crate::carried::carried_nothing;
 use crate::datum::Datum;
 use crate::graphs::parted;
-use slotted_analyses::Analysis;
+use slotted_data::Analysis;
 use slotted_languages::LanguageChildren;
 use slotted_slots::{Error, SlotTable};
 use slotted_small::Small;

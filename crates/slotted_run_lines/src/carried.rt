@@ -2,7 +2,7 @@
 ghost use Rattle.std.specs.Prelude.{◌≡◌, IfOk};
 ghost use Rattle.slotted_classes.specs.Kept.{nothing};
 ghost use Rattle.slotted_hashcons.specs.FiledRows.{no_rows};
-ghost use Rattle.slotted_analyses.specs.Meaning.{by_bare_nodes};
+ghost use Rattle.slotted_data.specs.Meaning.{by_bare_nodes};
 ghost use Rattle.slotted_data.specs.Carrying.{DataRests};
 ghost use Rattle.slotted_const_fold.specs.ConstFold.{fold};
 

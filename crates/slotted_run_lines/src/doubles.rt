@@ -1,7 +1,7 @@
 //! A clock of given times, and a hook that stops a run.
 ghost use Rattle.std.specs.Prelude.{◌≡◌, ⊤};
 
-use slotted_analyses::Analysis;
+use slotted_data::Analysis;
 use slotted_graph::EGraph;
 use slotted_rules::{Clock, Hook, HookStop};
 use slotted_slots::Error;

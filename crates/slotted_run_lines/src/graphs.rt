@@ -1,6 +1,6 @@
 //! Writes to a graph, and questions to it.
-use slotted_analyses::Analysis;
 use slotted_costs::AstSize;
+use slotted_data::Analysis;
 use slotted_graph::EGraph;
 use slotted_slots::{AppliedId, Error};
 use slotted_small::Small;

@@ -2,7 +2,7 @@
 ghost use Rattle.std.specs.Prelude.{◌≡◌, ◌+◌, sum, min};
 ghost use Rattle.slotted_run_lines.specs.LeastSize.{largest};
 
-use slotted_analyses::Analysis;
+use slotted_data::Analysis;
 use slotted_slots::Error;
 use slotted_small::Small;
 use std::alloc::Global;

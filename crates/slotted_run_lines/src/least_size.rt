@@ -2,7 +2,7 @@
 ghost use Rattle.std.specs.Prelude.{◌≡◌, suc, sum, min};
 ghost use Rattle.slotted_run_lines.specs.LeastSize.{largest, least_size};
 
-use slotted_analyses::Analysis;
+use slotted_data::Analysis;
 use slotted_languages::Language;
 use slotted_slots::Error;
 use std::alloc::Global;

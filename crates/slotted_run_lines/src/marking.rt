@@ -2,7 +2,7 @@
 ghost use Rattle.std.specs.Prelude.{◌≡◌};
 ghost use Rattle.slotted_const_fold.specs.ConstFold.{number_term};
 
-use slotted_analyses::{Analysis, Edit};
+use slotted_data::{Analysis, Edit};
 use slotted_slots::{Error, Slot};
 use slotted_small::Small;
 use slotted_terms::RecExpr;

@@ -1,6 +1,6 @@
 //! Conditions of a caller's own, whose answers depend on the graph.
 
-use slotted_analyses::Analysis;
+use slotted_data::Analysis;
 use slotted_graph::EGraph;
 use slotted_languages::Language;
 use slotted_patterns::Pattern;

@@ -1,6 +1,6 @@
 //! A method of substitution of a caller's own.
 
-use slotted_analyses::Analysis;
+use slotted_data::Analysis;
 use slotted_graph::EGraph;
 use slotted_languages::Language;
 use slotted_rules::OwnSubst;

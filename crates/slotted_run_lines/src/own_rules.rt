@@ -1,7 +1,7 @@
 //! A rule of a caller's own.
 ghost use Rattle.std.specs.Prelude.{◌≡◌};
 
-use slotted_analyses::Analysis;
+use slotted_data::Analysis;
 use slotted_graph::EGraph;
 use slotted_languages::Language;
 use slotted_rules::RewriteT;

@@ -1,5 +1,5 @@
 //! What rebuilds have done.
-use slotted_analyses::Analysis;
+use slotted_data::Analysis;
 use slotted_graph::EGraph;
 use slotted_slots::Error;
 use slotted_small::Small;

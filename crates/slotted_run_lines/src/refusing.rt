@@ -1,6 +1,6 @@
 //! An analysis that refuses.
 use crate::least_size::LeastSize;
-use slotted_analyses::Analysis;
+use slotted_data::Analysis;
 use slotted_languages::Language;
 use slotted_slots::Error;
 use std::alloc::Global;

@@ -1,5 +1,5 @@
 //! An analysis whose edits run out of slots.
-use slotted_analyses::{Analysis, Edit};
+use slotted_data::{Analysis, Edit};
 use slotted_languages::Language;
 use slotted_slots::{Error, Slot};
 use std::alloc::Global;
@@ -11,7 +11,7 @@ pub struct Tired;
 impl<L: Language> Analysis<L> for Tired {
     ghost use Rattle.std.specs.Prelude.{refl, true};
     ghost use Rattle.slotted_slots.specs.Error.{IsShortage};
-    ghost use Rattle.slotted_analyses.specs.Meaning.{no_data, no_data_merges};
+    ghost use Rattle.slotted_data.specs.Meaning.{no_data, no_data_merges};
     ghost use Rattle.slotted_run_lines.specs.Tired.{tired_codes};
 
     type Data = ();

@@ -1,6 +1,6 @@
 //! A rule for products with a factor that is known to be 1.
 use crate::datum::{Datum, IsOne};
-use slotted_analyses::Analysis;
+use slotted_data::Analysis;
 use slotted_graph::EGraph;
 use slotted_rules::{DataPasses, Rewrite, apply_rewrites, are_valid};
 use slotted_slots::Error;

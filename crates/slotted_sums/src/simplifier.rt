@@ -13,8 +13,8 @@ ghost use Rattle.slotted_rules.specs.Seen.{parts_of};
 ghost use Rattle.slotted_sums.specs.Simplifying.{FindsLeast, Gives, GiveRefused, LeastRefused, RunsRules, Simplifies};
 ghost use Rattle.slotted_sums.specs.Simplifying.{SimplifyRefused};
 
-use slotted_analyses::Analysis;
 use slotted_costs::CostFunction;
+use slotted_data::Analysis;
 use slotted_extract::extract_by;
 use slotted_graph::EGraph;
 use slotted_languages::Language;

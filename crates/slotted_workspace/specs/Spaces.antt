@@ -14,7 +14,7 @@ use Rattle.slotted_patterns.specs.Tree.{PatternTree}
 use Rattle.slotted_patterns.specs.View.{tree_of}
 use Rattle.slotted_operations.specs.Graph.{Graph, graph_code}
 use Rattle.slotted_graph.specs.Analysed.{new_graph}
-use Rattle.slotted_analyses.specs.Meaning.{unit_code}
+use Rattle.slotted_data.specs.Meaning.{unit_code}
 use Rattle.slotted_rules.specs.declared.condition_tree.CondTree.{CondTree}
 use Rattle.slotted_rules.specs.contracts.condition_tree.CondTree as condition
 use Rattle.slotted_rules.specs.declared.rewrite.Rewrite.{Rewrite}

@@ -6,7 +6,7 @@ ghost use Rattle.slotted_workspace.specs.Runs.{RunAnswers};
 ghost use Rattle.slotted_workspace.specs.Saturating as saturating;
 
 use crate::sparing::RuleCondition;
-use slotted_analyses::Analysis;
+use slotted_data::Analysis;
 use slotted_explain::EGraph;
 use slotted_languages::Language;
 use slotted_rules::{Clock, Hook, HookStop, Report, Rewrite, StopReason, run_eqsat};

@@ -3,7 +3,7 @@ ghost use Rattle.std.specs.Prelude.{◌≡◌, true, IfOk, IfErr};
 ghost use Rattle.slotted_slots.specs.Error.{IsOutOfMemory};
 ghost use Rattle.slotted_workspace.specs.Spaces.{kept_as, rule_of};
 
-use slotted_analyses::Analysis;
+use slotted_data::Analysis;
 use slotted_explain::EGraph;
 use slotted_languages::Language;
 use slotted_patterns::Pattern;

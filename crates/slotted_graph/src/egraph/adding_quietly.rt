@@ -22,7 +22,7 @@ ghost use Rattle.slotted_graph.specs.Analysed.{CarriesData};
 
 use super::EGraph;
 use crate::writes::adding;
-use slotted_analyses::Analysis;
+use slotted_data::Analysis;
 use slotted_languages::Language;
 use slotted_lookup::lookup::look_up;
 use slotted_slots::{AppliedId, Error};

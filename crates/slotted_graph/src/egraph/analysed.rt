@@ -10,8 +10,7 @@ ghost use Rattle.slotted_graph.specs.Writing.{IfUnmodified};
 
 use super::EGraph;
 use crate::rounds::modify_in_rounds;
-use slotted_analyses::Analysis;
-use slotted_data::{merge_value, pending_count, take_pending};
+use slotted_data::{Analysis, merge_value, pending_count, take_pending};
 use slotted_languages::Language;
 use slotted_slots::{Error, Id};
 use std::alloc::Global;

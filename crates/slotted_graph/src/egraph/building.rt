@@ -10,7 +10,7 @@ ghost use Rattle.slotted_operations.specs.Syn.{FillsFresh, HasUnknownBinders, Ma
 ghost use Rattle.slotted_operations.specs.ValidIds.{IsValidId, IsValidNode};
 
 use super::EGraph;
-use slotted_analyses::Analysis;
+use slotted_data::Analysis;
 use slotted_languages::Language;
 use slotted_lookup::filling::fill_id;
 use slotted_operations::syn;

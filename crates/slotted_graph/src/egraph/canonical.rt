@@ -15,7 +15,7 @@ ghost use Rattle.slotted_operations.specs.Syn.{IsNodeOfFilling, IsNodeWhereFull,
 ghost use Rattle.slotted_operations.specs.Syn.{MakesForNodeOf, MakesForTermOf, RunsOutForNodeOf, RunsOutForTermOf};
 
 use super::EGraph;
-use slotted_analyses::Analysis;
+use slotted_data::Analysis;
 use slotted_languages::Language;
 use slotted_operations::syn;
 use slotted_proofs::{ProofList, ProvenEq};

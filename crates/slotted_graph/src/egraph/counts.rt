@@ -7,9 +7,8 @@ ghost use Rattle.slotted_graph.specs.Counted.{HasNoHeights, IsWithinCounts, Rise
 ghost use Rattle.slotted_graph.specs.Extension.{ExtendsTo};
 
 use super::EGraph;
-use slotted_analyses::Analysis;
 use slotted_classes::RebuildCount;
-use slotted_data::{last_rebuild, rebuild_totals};
+use slotted_data::{Analysis, last_rebuild, rebuild_totals};
 use slotted_languages::Language;
 
 impl<L: Language, N: Analysis<L>> EGraph<L, N> {

@@ -5,7 +5,7 @@ ghost use Rattle.slotted_operations.specs.Graph.{MakesAtMost, OnlyTakesSlots};
 ghost use Rattle.slotted_graph.specs.FiledNodes.{CanRunOutForDump, IsAppended, slots_for_dump};
 
 use super::EGraph;
-use slotted_analyses::Analysis;
+use slotted_data::Analysis;
 use slotted_languages::Language;
 use slotted_reports::dumping::append_live;
 use slotted_slots::Error;

@@ -9,7 +9,7 @@ ghost use Rattle.slotted_operations.specs.Graph.{IsFullId};
 ghost use Rattle.slotted_operations.specs.Image.{FoundAlike};
 
 use super::EGraph;
-use slotted_analyses::Analysis;
+use slotted_data::Analysis;
 use slotted_languages::Language;
 use slotted_operations::explaining::explain_ids;
 use slotted_proofs::ProvenEq;

@@ -13,8 +13,8 @@ ghost use Rattle.slotted_graph.specs.LeastTerms.{LacksEntry, MakesForExtracted, 
 
 use super::EGraph;
 use crate::{LeastTerms, extracting, terms};
-use slotted_analyses::Analysis;
 use slotted_costs::CostFunction;
+use slotted_data::Analysis;
 use slotted_languages::Language;
 use slotted_slots::{AppliedId, Error};
 use slotted_terms::expr::RecExpr;

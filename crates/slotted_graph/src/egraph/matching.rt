@@ -15,7 +15,7 @@ ghost use Rattle.slotted_graph.specs.Matching.{AreFoundValid, FindsAll, FindsAll
 ghost use Rattle.slotted_graph.specs.Matching.{FindsAllAt, FindsAllAtOf, FindsEachAtOf, FindsLookedUpAt};
 
 use super::EGraph;
-use slotted_analyses::Analysis;
+use slotted_data::Analysis;
 use slotted_languages::Language;
 use slotted_matching::Matches;
 use slotted_matching::find::{find_matches, find_matches_at};

@@ -10,7 +10,7 @@ ghost use Rattle.slotted_graph.specs.FiledNodes.{AscendByShape, CanRunOutForEnod
 ghost use Rattle.slotted_graph.specs.FiledNodes.{HasLargeRow, HasLargeRowOf, HasOwnNames, IsEnode, IsNoneIfDead, slots_for_enodes};
 
 use super::EGraph;
-use slotted_analyses::Analysis;
+use slotted_data::Analysis;
 use slotted_languages::Language;
 use slotted_lookup::reports;
 use slotted_reports::{checking, nodes};

@@ -7,7 +7,7 @@ ghost use Rattle.slotted_operations.specs.Reads.{AnswersPattern};
 ghost use Rattle.slotted_graph.specs.KnownPatterns.{is_unknown, knows_node, knows_pattern, HasSmallNodes};
 
 use super::EGraph;
-use slotted_analyses::Analysis;
+use slotted_data::Analysis;
 use slotted_languages::Language;
 use slotted_languages::shape::PLACES;
 use slotted_operations::names::places_are_known;

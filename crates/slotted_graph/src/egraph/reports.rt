@@ -13,8 +13,8 @@ ghost use Rattle.slotted_operations.specs.Reports.{HasClass, IsFoundFor, class_n
 ghost use Rattle.slotted_graph.specs.Measure.{IsProgress, no_progress};
 
 use super::EGraph;
-use slotted_analyses::Analysis;
 use slotted_classes::Store;
+use slotted_data::Analysis;
 use slotted_languages::Language;
 use slotted_lookup::{finding, reports};
 use slotted_reports::{ProgressMeasure, measure};

@@ -5,7 +5,7 @@ ghost use Rattle.slotted_proofs.specs.Steps.{IsRefusal};
 ghost use Rattle.slotted_operations.specs.Checks.{Fits, CanRunOut, Accepts, IsDerivable, FollowsFromEntry, entry_by};
 
 use crate::egraph::EGraph;
-use slotted_analyses::Analysis;
+use slotted_data::Analysis;
 use slotted_languages::Language;
 use slotted_operations::checking;
 use slotted_proofs::{

@@ -6,7 +6,7 @@ ghost use Rattle.slotted_hashcons.specs.NormalNodes.{HasFindableChildren};
 ghost use Rattle.slotted_proofs.specs.Equations.{to_applied};
 ghost use Rattle.slotted_terms.specs.Valid.{IsValidTerm, IsWhole};
 ghost use Rattle.slotted_classes.specs.Kept.{nodes_of};
-ghost use Rattle.slotted_analyses.specs.Meaning.{by_bare_nodes};
+ghost use Rattle.slotted_data.specs.Meaning.{by_bare_nodes};
 ghost use Rattle.slotted_data.specs.Carrying.{Carried, DataRests, HasCarriedAll};
 ghost use Rattle.slotted_operations.specs.Adding.{RunsOutForFilled, slots_needed};
 ghost use Rattle.slotted_operations.specs.Causes.{CanRunOutForTerm, IsUnknownIfFull, IsUnknownTerm};
@@ -15,9 +15,8 @@ ghost use Rattle.slotted_operations.specs.Good.{LacksForTermIn, RunsOutForUnknow
 ghost use Rattle.slotted_operations.specs.Graph.{MakesAtMost};
 ghost use Rattle.slotted_operations.specs.Places.{term_slots};
 
-use slotted_analyses::Analysis;
 use slotted_classes::Store;
-use slotted_data::{ClassData, carry};
+use slotted_data::{Analysis, ClassData, carry};
 use slotted_hashcons::Hashcons;
 use slotted_languages::Language;
 use slotted_operations::{adding, looking_up};

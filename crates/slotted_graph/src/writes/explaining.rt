@@ -3,16 +3,15 @@ ghost use Rattle.std.specs.Prelude.{◌≡◌, ◌+◌, IfErr, IfOk, IsErrOf, On
 ghost use Rattle.slotted_slots.specs.Error.{IsShortage};
 ghost use Rattle.slotted_slots.specs.Table.{KnowsMore};
 ghost use Rattle.slotted_terms.specs.Valid.{IsWhole};
-ghost use Rattle.slotted_analyses.specs.Meaning.{by_bare_nodes};
+ghost use Rattle.slotted_data.specs.Meaning.{by_bare_nodes};
 ghost use Rattle.slotted_data.specs.Carrying.{Carried, DataRests, HasCarriedAll};
 ghost use Rattle.slotted_operations.specs.Explaining.{ExplainsTerms, RunsOutForTerms};
 ghost use Rattle.slotted_operations.specs.Good.{Good, RestsWith, HasFreshSlots, image_of};
 ghost use Rattle.slotted_operations.specs.Graph.{MakesAtMost};
 ghost use Rattle.slotted_operations.specs.Places.{term_slots};
 
-use slotted_analyses::Analysis;
 use slotted_classes::Store;
-use slotted_data::{ClassData, carry};
+use slotted_data::{Analysis, ClassData, carry};
 use slotted_hashcons::Hashcons;
 use slotted_languages::Language;
 use slotted_operations::explaining;

@@ -4,14 +4,13 @@ ghost use Rattle.slotted_slots.specs.Error.{IsShortage};
 ghost use Rattle.slotted_proofs.specs.Equations.{to_applied};
 ghost use Rattle.slotted_classes.specs.Finding.{IsFindable};
 ghost use Rattle.slotted_classes.specs.Kept.{text_bytes};
-ghost use Rattle.slotted_analyses.specs.Meaning.{by_bare_nodes};
+ghost use Rattle.slotted_data.specs.Meaning.{by_bare_nodes};
 ghost use Rattle.slotted_data.specs.Carrying.{Carried, DataRests, HasCarriedAll};
 ghost use Rattle.slotted_operations.specs.Causes.{HasLargeClassIn};
 ghost use Rattle.slotted_operations.specs.Good.{Good, RestsWith, UnitesSides, image_of};
 
-use slotted_analyses::Analysis;
 use slotted_classes::Store;
-use slotted_data::{ClassData, carry};
+use slotted_data::{Analysis, ClassData, carry};
 use slotted_hashcons::Hashcons;
 use slotted_languages::Language;
 use slotted_operations::uniting;

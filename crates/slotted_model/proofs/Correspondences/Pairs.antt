@@ -139,4 +139,4 @@ pub In-values_composite : (A m : List (ℕ × ℕ)) (x : ℕ) → In x (values (
 In-values_composite A m x h =
     let p = Contains-of_value (composite A m) x (Contains-In (values (composite A m)) x h) in
     let q = Contains-of_composite A m p.0 x p.1 in
-    In-Contains (values m) x (Contains-value m q.0 x q.2)
+    In-Contains (values m) x (Contains-value m q.0 x (Contains-value_of m q.0 x q.2))

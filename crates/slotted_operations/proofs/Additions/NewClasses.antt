@@ -31,8 +31,8 @@ use Rattle.slotted_hashcons.specs.FoundNodes.{HasNoMorePlaces}
 use Rattle.slotted_classes.proofs.ClassNodes.{node-is}
 use Rattle.slotted_hashcons.proofs.KeyedNodes.{same-places}
 use Rattle.slotted_classes.specs.Stored.{Stored}
-use Rattle.slotted_unions.specs.Grows.{GrowsUncounted}
-use Rattle.slotted_unions.proofs.GrownRows.{grown-count, grown-rows}
+use Rattle.slotted_rebuilding.specs.Grows.{GrowsUncounted}
+use Rattle.slotted_rebuilding.proofs.GrownRows.{grown-count, grown-rows}
 use Rattle.slotted_rebuilding.specs.Causes.{HasLargeClass}
 use Rattle.slotted_rebuilding.specs.Counted.{CountsFit, CountsGo, CountsOn, TotalsFit}
 use Rattle.slotted_rebuilding.proofs.RebuildCounts.{counts-same}

@@ -7,8 +7,8 @@ use Rattle.slotted_proofs.specs.Entries.{Proven}
 use Rattle.slotted_proofs.specs.Proving.{IsProvable}
 use Rattle.slotted_classes.specs.Kept.{Kept, nodes_of, proofs_of, size_of, EntersIn}
 use Rattle.slotted_hashcons.specs.FiledRows.{Rows, rows_in}
-use Rattle.slotted_unions.specs.Proving.{OnlyProves}
-use Rattle.slotted_unions.proofs.EnteredProofs.{only-state, entering-proves}
+use Rattle.slotted_rebuilding.specs.Proving.{OnlyProves}
+use Rattle.slotted_rebuilding.proofs.EnteredProofs.{only-state, entering-proves}
 use Rattle.slotted_rebuilding.specs.Counted.{CountsFit}
 use Rattle.slotted_hashcons.specs.WellFiled.{state_in}
 use Rattle.slotted_rebuilding.proofs.CongruenceEntries.{proved-well}

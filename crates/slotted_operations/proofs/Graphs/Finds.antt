@@ -9,7 +9,7 @@ use Rattle.slotted_proofs.specs.Proving.{IsProvable}
 use Rattle.slotted_classes.specs.Finding.{HasFinds, IsFindable}
 use Rattle.slotted_classes.specs.Kept.{Kept, nodes_of, entries_of, with_proofs, EntersIn}
 use Rattle.slotted_classes.proofs.StoredFinds.{stored-finds}
-use Rattle.slotted_unions.proofs.EnteredProofs.{entering-proves}
+use Rattle.slotted_rebuilding.proofs.EnteredProofs.{entering-proves}
 use Rattle.slotted_operations.specs.Good.{Good}
 
 pub good-finds : (k : Kept) → Good k → HasFinds k

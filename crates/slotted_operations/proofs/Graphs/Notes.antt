@@ -6,7 +6,7 @@ use Rattle.std.proofs.lemmas.List.Elements.{Contains-append_cases}
 use Rattle.slotted_model.specs.Find.{IsLive}
 use Rattle.slotted_proofs.specs.Entries.{Proven}
 use Rattle.slotted_classes.specs.Kept.{Kept, EntersIn, ListsDead, entries_of, size_of}
-use Rattle.slotted_unions.specs.Proving.{OnlyProves}
+use Rattle.slotted_rebuilding.specs.Proving.{OnlyProves}
 use Rattle.slotted_rebuilding.proofs.RebuildCounts.{counts-on, counts-on_same}
 use Rattle.slotted_classes.specs.Stored.{Stored}
 use Rattle.slotted_operations.specs.Good.{KeepsNotes, image_of}

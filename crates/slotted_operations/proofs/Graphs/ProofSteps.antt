@@ -36,7 +36,7 @@ use Rattle.slotted_operations.specs.Leaves.{FollowsFromLeaves}
 use Rattle.slotted_classes.specs.Kept.{Kept, nodes_of, proofs_of, with_proofs, EntersIn}
 use Rattle.slotted_hashcons.specs.FiledRows.{Rows, rows_in}
 use Rattle.slotted_operations.specs.Good.{graph_of, image_of, Good, RestsWith, HasFreshSlots}
-use Rattle.slotted_unions.proofs.JoinedIds.{written_sides}
+use Rattle.slotted_rebuilding.proofs.JoinedIds.{written_sides}
 use Rattle.slotted_operations.proofs.Graphs.Finds.{entering-good}
 use Rattle.slotted_operations.proofs.Graphs.AtRest.{entered-rests}
 use Rattle.slotted_operations.proofs.Graphs.Leaves.{good-entries_follow}

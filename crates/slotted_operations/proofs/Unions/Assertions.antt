@@ -26,9 +26,9 @@ use Rattle.slotted_classes.proofs.KeptLists.{equation_at-of, length-proofs_of}
 use Rattle.slotted_hashcons.specs.FiledRows.{Rows, rows_in}
 use Rattle.slotted_classes.specs.StateOf.{state_of, state_with}
 use Rattle.slotted_classes.specs.Stored.{Stored, IsOverOneClass}
-use Rattle.slotted_unions.specs.Grows.{Grows}
-use Rattle.slotted_unions.proofs.GrownRows.{grown-count, grown-rows}
-use Rattle.slotted_unions.proofs.EnteredProofs.{entered-more}
+use Rattle.slotted_rebuilding.specs.Grows.{Grows}
+use Rattle.slotted_rebuilding.proofs.GrownRows.{grown-count, grown-rows}
+use Rattle.slotted_rebuilding.proofs.EnteredProofs.{entered-more}
 use Rattle.slotted_hashcons.specs.WellFiled.{state_in, IsWellFiled}
 use Rattle.slotted_rebuilding.proofs.FiledStates.{fits-grown, places-grown}
 use Rattle.slotted_operations.specs.Good.{image_of, Good}

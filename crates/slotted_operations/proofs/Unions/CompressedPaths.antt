@@ -27,11 +27,11 @@ use Rattle.slotted_proofs.specs.Entries.{entry_of}
 use Rattle.slotted_classes.specs.Kept.{Kept, entries_of, nodes_of, proofs_of, size_of}
 use Rattle.slotted_classes.proofs.KeptLists.{length-entries_of, length-nodes_of}
 use Rattle.slotted_hashcons.specs.FiledRows.{Rows, rows_in}
-use Rattle.slotted_unions.specs.Shortcuts.{HasLargeFoundClass, Shortens}
+use Rattle.slotted_rebuilding.specs.Shortcuts.{HasLargeFoundClass, Shortens}
 use Rattle.slotted_classes.specs.StateOf.{symmetry_of_entry}
-use Rattle.slotted_unions.proofs.EnteredProofs.{only-nodes}
-use Rattle.slotted_unions.proofs.GrownRows.{grown-count, grown-rows}
-use Rattle.slotted_unions.proofs.KeptSlots.{grows-uncounted}
+use Rattle.slotted_rebuilding.proofs.EnteredProofs.{only-nodes}
+use Rattle.slotted_rebuilding.proofs.GrownRows.{grown-count, grown-rows}
+use Rattle.slotted_rebuilding.proofs.KeptSlots.{grows-uncounted}
 use Rattle.slotted_rebuilding.specs.Causes.{HasLargeClass}
 use Rattle.slotted_rebuilding.specs.Counted.{CountsFit, CountsGo}
 use Rattle.slotted_hashcons.specs.WellFiled.{IsWellFiled, state_in}

@@ -11,9 +11,9 @@ use Rattle.slotted_proofs.specs.Entries.{Proven}
 use Rattle.slotted_classes.specs.Kept.{Kept, nodes_of, entries_of}
 use Rattle.slotted_hashcons.specs.FiledRows.{Rows}
 use Rattle.slotted_classes.specs.StateOf.{state_of}
-use Rattle.slotted_unions.specs.Grows.{Grows}
-use Rattle.slotted_unions.specs.Uniting.{SaysNothing}
-use Rattle.slotted_unions.proofs.AlikeSides.{alike-identity}
+use Rattle.slotted_rebuilding.specs.Grows.{Grows}
+use Rattle.slotted_rebuilding.specs.Uniting.{SaysNothing}
+use Rattle.slotted_rebuilding.proofs.AlikeSides.{alike-identity}
 use Rattle.slotted_hashcons.specs.WellFiled.{IsWellFiled}
 use Rattle.slotted_rebuilding.specs.Filed.{UnitesFiled}
 use Rattle.slotted_rebuilding.specs.Turns.{Rebuilds}

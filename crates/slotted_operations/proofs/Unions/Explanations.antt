@@ -20,10 +20,10 @@ use Rattle.slotted_model.proofs.Represented.Ids.{id_of-iff}
 use Rattle.slotted_classes.specs.Kept.{Kept, nodes_of, entries_of, proofs_of, with_proofs}
 use Rattle.slotted_classes.proofs.KeptLists.{equation_at-of, length-nodes_of, length-proofs_of}
 use Rattle.slotted_hashcons.specs.FiledRows.{Rows, rows_in}
-use Rattle.slotted_unions.specs.Proving as unions
-use Rattle.slotted_unions.specs.Proving.{OnlyProves, ProvesEqual}
-use Rattle.slotted_unions.proofs.KeptSlots.{grows-uncounted}
-use Rattle.slotted_unions.proofs.EnteredProofs.{only-nodes, only-proofs, only-state, only-grows}
+use Rattle.slotted_rebuilding.specs.Proving as unions
+use Rattle.slotted_rebuilding.specs.Proving.{OnlyProves, ProvesEqual}
+use Rattle.slotted_rebuilding.proofs.KeptSlots.{grows-uncounted}
+use Rattle.slotted_rebuilding.proofs.EnteredProofs.{only-nodes, only-proofs, only-state, only-grows}
 use Rattle.slotted_hashcons.specs.WellFiled.{state_in}
 use Rattle.slotted_rebuilding.specs.Counted.{CountsGo}
 use Rattle.slotted_rebuilding.proofs.RebuildCounts.{counts-same}

@@ -15,7 +15,7 @@ use Rattle.slotted_model.proofs.Rebuilding.FoundEntries.{says-turned}
 use Rattle.slotted_model.proofs.Rebuilding.GrowingLists.{proofs-go_on, proofs-sane}
 use Rattle.slotted_model.proofs.Rebuilding.Unions.{can_drop-left, can_drop-right, can_link-left, can_link-right}
 use Rattle.slotted_model.proofs.Finds.Uniting.{linked-alike}
-use Rattle.slotted_unions.proofs.JoinedClasses.{drop-class}
+use Rattle.slotted_rebuilding.proofs.JoinedClasses.{drop-class}
 
 -- the sides of an equation find different classes
 abbrev FindsTwo : State → Equation → Type 0

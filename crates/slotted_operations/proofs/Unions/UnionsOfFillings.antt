@@ -14,9 +14,9 @@ use Rattle.slotted_classes.specs.Finding.{IsFindable}
 use Rattle.slotted_classes.specs.Kept.{Kept, nodes_of, entries_of, EntersIn, with_counts}
 use Rattle.slotted_classes.proofs.KeptLists.{length-nodes_of}
 use Rattle.slotted_hashcons.specs.FiledRows.{Rows}
-use Rattle.slotted_unions.specs.Proving.{HasLargeSide}
-use Rattle.slotted_unions.specs.Grows.{Grows}
-use Rattle.slotted_unions.specs.Uniting.{equation_in}
+use Rattle.slotted_rebuilding.specs.Proving.{HasLargeSide}
+use Rattle.slotted_rebuilding.specs.Grows.{Grows}
+use Rattle.slotted_rebuilding.specs.Uniting.{equation_in}
 use Rattle.slotted_rebuilding.specs.Causes.{HasLargeClass}
 use Rattle.slotted_hashcons.specs.WellFiled.{IsWellFiled}
 use Rattle.slotted_rebuilding.specs.Filed.{UnitesFiled}

@@ -25,10 +25,10 @@ use Rattle.slotted_classes.specs.Counts.{Counts}
 use Rattle.slotted_classes.specs.Kept.{Kept, nodes_of, entries_of, proofs_of, size_of, EntersIn}
 use Rattle.slotted_classes.proofs.KeptLists.{equation_at-of, length-nodes_of, length-proofs_of}
 use Rattle.slotted_hashcons.specs.FiledRows.{Rows, rows_in}
-use Rattle.slotted_unions.specs.Proving as unions
+use Rattle.slotted_rebuilding.specs.Proving as unions
 use Rattle.slotted_classes.specs.StateOf.{state_of}
-use Rattle.slotted_unions.specs.Grows.{GrowsUncounted}
-use Rattle.slotted_unions.proofs.KeptSlots.{uncounted-then}
+use Rattle.slotted_rebuilding.specs.Grows.{GrowsUncounted}
+use Rattle.slotted_rebuilding.proofs.KeptSlots.{uncounted-then}
 use Rattle.slotted_rebuilding.specs.Counted.{CountsFit, CountsGo, TotalsFit}
 use Rattle.slotted_hashcons.specs.WellFiled.{state_in, IsWellFiled}
 use Rattle.slotted_rebuilding.specs.Filed.{UnitesFiled}

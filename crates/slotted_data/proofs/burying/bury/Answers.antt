@@ -7,8 +7,8 @@ use Rattle.slotted_model.proofs.Finds.Finding.{leads, find_class-live, found-liv
 use Rattle.slotted_model_analyses.specs.Analysis.{IsMerge}
 use Rattle.slotted_classes.specs.Kept.{nodes_of, entries_of}
 use Rattle.slotted_classes.proofs.KeptLists.{length-nodes_of}
-use Rattle.slotted_analyses.specs.Meaning.{by_bare_nodes}
-use Rattle.slotted_analyses.proofs.Merging.{merge-decided}
+use Rattle.slotted_data.specs.Meaning.{by_bare_nodes}
+use Rattle.slotted_data.proofs.Merging.{merge-decided}
 use Rattle.slotted_data.specs.Burying.{Buries}
 use Rattle.slotted_data.specs.Users.{found_in}
 use Rattle.slotted_data.proofs.Buried.{buries-next, buries-none}

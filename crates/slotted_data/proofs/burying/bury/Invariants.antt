@@ -1,5 +1,5 @@
 use Rattle.std.proofs.Common.{take}
-use Rattle.slotted_analyses.specs.Meaning.{by_bare_nodes}
+use Rattle.slotted_data.specs.Meaning.{by_bare_nodes}
 use Rattle.slotted_data.specs.Burying.{Buries}
 use Rattle.slotted_data.proofs.burying.bury.Given as goal
 

@@ -1,7 +1,7 @@
 use Rattle.std.proofs.Common.{◌≡◌, true, false, length, sym, ◌∙◌, ap, subst}
 use Rattle.slotted_model_analyses.specs.Analysis.{IsMerge}
-use Rattle.slotted_analyses.specs.Meaning.{by_bare_nodes}
-use Rattle.slotted_analyses.proofs.Merging.{merge-decided}
+use Rattle.slotted_data.specs.Meaning.{by_bare_nodes}
+use Rattle.slotted_data.proofs.Merging.{merge-decided}
 use Rattle.slotted_data.specs.Held.{Held, with_carried}
 use Rattle.slotted_data.specs.Carrying.{Carried}
 use Rattle.slotted_data.proofs.GoingAlong.{since-low, since-tall}

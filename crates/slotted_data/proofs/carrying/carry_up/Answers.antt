@@ -2,8 +2,8 @@ use Rattle.std.proofs.Common.{◌∙◌, subst, arith}
 use Rattle.std.specs.Prelude.{Contains}
 use Rattle.slotted_model_analyses.specs.Analysis.{IsMerge}
 use Rattle.slotted_classes.proofs.KeptLists.{length-entries_of}
-use Rattle.slotted_analyses.specs.Meaning.{by_bare_nodes}
-use Rattle.slotted_analyses.proofs.Merging.{merge-decided}
+use Rattle.slotted_data.specs.Meaning.{by_bare_nodes}
+use Rattle.slotted_data.proofs.Merging.{merge-decided}
 use Rattle.slotted_data.specs.Burying.{Buries}
 use Rattle.slotted_data.proofs.GoingAlong.{from-drop, slice-drop, slice-is, since-within, since-ready, since-has}
 use Rattle.slotted_data.proofs.carrying.carry_up.Goals as goal

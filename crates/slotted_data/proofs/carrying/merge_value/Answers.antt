@@ -1,7 +1,7 @@
 use Rattle.std.proofs.Common.{◌≡◌, true, false, rules}
 use Rattle.slotted_model_analyses.specs.Analysis.{IsMerge}
-use Rattle.slotted_analyses.specs.Meaning.{by_bare_nodes}
-use Rattle.slotted_analyses.proofs.Merging.{merge-decided}
+use Rattle.slotted_data.specs.Meaning.{by_bare_nodes}
+use Rattle.slotted_data.proofs.Merging.{merge-decided}
 use Rattle.slotted_data.proofs.MergedValues.{at-low, at-ready, at-has, at-rise}
 use Rattle.slotted_data.proofs.carrying.merge_value.Goals as goal
 

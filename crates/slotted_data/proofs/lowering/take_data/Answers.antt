@@ -2,8 +2,8 @@ use Rattle.std.proofs.Common.{◌≡◌, ◌-◌, None, arith, rules, subst, sym
 use Rattle.std.specs.Prelude.{IfNone, IfSome}
 use Rattle.slotted_model_analyses.specs.Analysis.{IsMerge}
 use Rattle.slotted_hashcons.specs.Filed.{filed_of}
-use Rattle.slotted_analyses.specs.Meaning.{by_bare_nodes}
-use Rattle.slotted_analyses.proofs.Merging.{merge-decided}
+use Rattle.slotted_data.specs.Meaning.{by_bare_nodes}
+use Rattle.slotted_data.proofs.Merging.{merge-decided}
 use Rattle.slotted_data.specs.Lowering.{FallsBy, MakesValue}
 use Rattle.slotted_data.proofs.TakenData.{falls-lowered, takes-low, takes-none, takes-lowered}
 use Rattle.slotted_data.proofs.lowering.take_data.Goals as goal

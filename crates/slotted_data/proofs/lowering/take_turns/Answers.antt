@@ -5,8 +5,8 @@ use Rattle.slotted_model_analyses.specs.Analysis.{IsMerge}
 use Rattle.slotted_model_analyses.specs.DataPart.{TakesData}
 use Rattle.slotted_hashcons.specs.FiledRows.{IsFiled}
 use Rattle.slotted_hashcons.specs.WellFiled.{state_in}
-use Rattle.slotted_analyses.specs.Meaning.{by_bare_nodes}
-use Rattle.slotted_analyses.proofs.Merging.{merge-decided}
+use Rattle.slotted_data.specs.Meaning.{by_bare_nodes}
+use Rattle.slotted_data.proofs.Merging.{merge-decided}
 use Rattle.slotted_data.specs.Lowering.{part_of, quiet}
 use Rattle.slotted_data.proofs.Rising.{filed-within, left-filed, nobody-first, ready-same, rise-falls, rise-has, rise-turn, some-of, turns-few, turns-next, turns-none}
 use Rattle.slotted_data.proofs.lowering.take_turns.Goals as goal

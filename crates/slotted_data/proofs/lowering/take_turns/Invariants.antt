@@ -2,7 +2,7 @@ use Rattle.std.proofs.Common.{◌≡◌}
 use Rattle.std.specs.Prelude.{◌⊎◌}
 use Rattle.slotted_model_analyses.specs.DataPart.{HasData}
 use Rattle.slotted_hashcons.specs.WellFiled.{state_in}
-use Rattle.slotted_analyses.specs.Meaning.{by_bare_nodes}
+use Rattle.slotted_data.specs.Meaning.{by_bare_nodes}
 use Rattle.slotted_data.specs.Lowering.{TakesTurns, part_of, quiet}
 use Rattle.slotted_data.proofs.Rising.{work_left}
 use Rattle.slotted_data.proofs.lowering.take_turns.Given as goal

@@ -1,6 +1,6 @@
 use Rattle.std.proofs.Common.{subst, sym, inr}
 use Rattle.std.proofs.lemmas.List.{take_more}
-use Rattle.slotted_analyses.specs.Edits.{IsValidEdit}
+use Rattle.slotted_data.specs.Edits.{IsValidEdit}
 use Rattle.slotted_proofs.specs.Equations.{to_applied}
 use Rattle.slotted_graph.specs.Edited.{MakesEdit, MakesEdits, all_made, then_edit}
 use Rattle.slotted_graph.proofs.Leaving.{edits-extend}

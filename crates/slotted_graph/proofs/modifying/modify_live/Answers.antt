@@ -1,8 +1,8 @@
 use Rattle.std.proofs.Common.{◌∙◌, ap, length, nat_eq, subst, sym}
 use Rattle.std.specs.Prelude.{All, not, slice_index_or}
 use Rattle.slotted_slots.specs.Table.{AllKnown}
-use Rattle.slotted_analyses.specs.Edits.{IsValidEdit}
-use Rattle.slotted_analyses.proofs.ValidEdits.{edit-valid}
+use Rattle.slotted_data.specs.Edits.{IsValidEdit}
+use Rattle.slotted_data.proofs.ValidEdits.{edit-valid}
 use Rattle.slotted_proofs.specs.Equations.{to_applied}
 use Rattle.slotted_operations.specs.Reports.{names_slots}
 use Rattle.slotted_graph.specs.Asked.{IsAskedIn}

@@ -1,7 +1,7 @@
 use Rattle.std.proofs.Common.{◌≡◌, ◌+◌, ◌∙◌, suc, map, take, refl, subst, arith}
 use Rattle.std.specs.Prelude.{Contains}
 use Rattle.slotted_classes.specs.Kept.{SymmetryEntry, symmetry_entry}
-use Rattle.slotted_unions.proofs.ListedSoFar.{contained-map}
+use Rattle.slotted_rebuilding.proofs.ListedSoFar.{contained-map}
 use Rattle.slotted_operations.specs.Good.{image_of}
 use Rattle.slotted_operations.specs.Image.{CountsOpen}
 use Rattle.slotted_operations.proofs.Graphs.Finds.{good-finds}

@@ -2,7 +2,7 @@ use Rattle.std.proofs.Common.{◌∙◌, false, true, sym, rules}
 use Rattle.std.proofs.lemmas.Bool.{false≢true}
 use Rattle.slotted_classes.specs.Kept.{text_bytes}
 use Rattle.slotted_proofs.specs.Equations.{to_applied}
-use Rattle.slotted_unions.proofs.GrownRows.{grown-count}
+use Rattle.slotted_rebuilding.proofs.GrownRows.{grown-count}
 use Rattle.slotted_rebuilding.proofs.FiledStates.{united-well}
 use Rattle.slotted_operations.proofs.Unions.UnionsOfFillings.{said, filled-filed, stays-filled, unites-filled, large-uniting, large-rebuilding}
 use Rattle.slotted_operations.proofs.Graphs.Finds.{good-finds}

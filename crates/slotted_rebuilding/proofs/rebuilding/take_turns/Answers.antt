@@ -1,5 +1,5 @@
 use Rattle.std.proofs.Common.{◌∙◌, sym, rules}
-use Rattle.slotted_unions.proofs.KeptSlots.{grows-then}
+use Rattle.slotted_rebuilding.proofs.KeptSlots.{grows-then}
 use Rattle.slotted_rebuilding.proofs.LargeClasses.{large-grown, large-unaligned, same-error}
 use Rattle.slotted_rebuilding.proofs.Rebuilds.{settled-first, one-more, less-work, nothing-left}
 use Rattle.slotted_rebuilding.proofs.rebuilding.take_turns.Goals as goal

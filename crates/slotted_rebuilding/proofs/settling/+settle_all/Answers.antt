@@ -1,8 +1,8 @@
 use Rattle.std.proofs.Common.{◌∙◌, sym, subst, arith, rules}
 use Rattle.std.specs.Prelude.{IfSome, IfNone}
 use Rattle.indexmap.proofs.MapLemmas.{OnOk-map}
-use Rattle.slotted_unions.specs.Settling.{IsUnaligned, AreAligned}
-use Rattle.slotted_unions.proofs.SettlingSteps.{unaligned-within, unaligned-large, act-smaller, act-large}
+use Rattle.slotted_rebuilding.specs.Settling.{IsUnaligned, AreAligned}
+use Rattle.slotted_rebuilding.proofs.SettlingSteps.{unaligned-within, unaligned-large, act-smaller, act-large}
 use Rattle.slotted_rebuilding.specs.Filed.{SettlesFiled}
 use Rattle.slotted_rebuilding.proofs.LargeClasses.{had-slots, same-error}
 use Rattle.slotted_rebuilding.proofs.SymmetryActs.{settled-filed, found-aligned, acted-well, acted-then}

@@ -1,6 +1,6 @@
 use Rattle.std.proofs.Common.{◌∙◌, sym, subst, rules, arith}
 use Rattle.slotted_classes.proofs.KeptLists.{any_default}
-use Rattle.slotted_unions.proofs.EnteredProofs.{only-large}
+use Rattle.slotted_rebuilding.proofs.EnteredProofs.{only-large}
 use Rattle.slotted_rebuilding.specs.Congruence.{IsOfAlike}
 use Rattle.slotted_rebuilding.proofs.Bridges.{alike-still, first-none, first-more, first-all}
 use Rattle.slotted_rebuilding.proofs.twins.bridges.Goals as goal

@@ -6,7 +6,7 @@ use Rattle.slotted_proofs.specs.Steps.{AreEntries, HasInjectiveSides, IsLarge}
 use Rattle.slotted_classes.specs.Kept.{EntersBy}
 use Rattle.slotted_rebuilding.specs.Congruence.{HasLargeBridge, IsOfAlike, ProvesEach, ProvesTwins}
 use Rattle.slotted_rebuilding.proofs.Bridges.{parts-entries, step-proves}
-use Rattle.slotted_unions.proofs.JoinedIds.{no_bad_step}
+use Rattle.slotted_rebuilding.proofs.JoinedIds.{no_bad_step}
 use Rattle.slotted_rebuilding.proofs.twins.congruence.Goals as goal
 
 pub bridges-requires-clause-alike : goal.bridges-requires-clause-alike

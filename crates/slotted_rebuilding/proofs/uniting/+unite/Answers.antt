@@ -1,8 +1,8 @@
 use Rattle.std.proofs.Common.{◌<◌, OnOk, subst, arith, rules, ◌∙◌, sym, ap, length}
 use Rattle.indexmap.proofs.MapLemmas.{OnOk-map}
-use Rattle.slotted_unions.specs.Uniting.{StepsBy}
-use Rattle.slotted_unions.proofs.GrownRows.{grown-count}
-use Rattle.slotted_unions.proofs.UniteSteps.{lost-large}
+use Rattle.slotted_rebuilding.specs.Uniting.{StepsBy}
+use Rattle.slotted_rebuilding.proofs.GrownRows.{grown-count}
+use Rattle.slotted_rebuilding.proofs.UniteSteps.{lost-large}
 use Rattle.slotted_hashcons.specs.FiledRows.{Rows}
 use Rattle.slotted_rebuilding.specs.Filed.{UnitesFiled}
 use Rattle.slotted_proofs.proofs.Refusals.{slots_left}

@@ -4,7 +4,7 @@ use Rattle.slotted_model.proofs.Rebuilding.Asserting.{nothing-rests}
 use Rattle.slotted_classes.specs.Kept.{Kept, nothing}
 use Rattle.slotted_hashcons.specs.FiledRows.{Rows, no_rows}
 use Rattle.slotted_hashcons.specs.WellFiled.{state_in}
-use Rattle.slotted_analyses.specs.Meaning.{by_bare_nodes}
+use Rattle.slotted_data.specs.Meaning.{by_bare_nodes}
 use Rattle.slotted_data.specs.Held.{Held, no_values}
 use Rattle.slotted_data.specs.Carrying.{DataRests, RestedBefore}
 use Rattle.slotted_data.proofs.Resting.{nothing-rests-data, rested-itself}

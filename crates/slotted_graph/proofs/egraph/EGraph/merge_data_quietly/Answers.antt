@@ -1,7 +1,7 @@
 use Rattle.std.proofs.Common.{ap, refl, sym}
 use Rattle.slotted_model_analyses.specs.Analysis.{IsMerge}
-use Rattle.slotted_analyses.specs.Meaning.{by_bare_nodes}
-use Rattle.slotted_analyses.proofs.Merging.{merge-decided}
+use Rattle.slotted_data.specs.Meaning.{by_bare_nodes}
+use Rattle.slotted_data.proofs.Merging.{merge-decided}
 use Rattle.slotted_operations.specs.Graph.{Graph}
 use Rattle.slotted_operations.proofs.Graphs.Reports.{within}
 use Rattle.slotted_graph.proofs.Analysed.{merges-data}

@@ -1,5 +1,5 @@
 use Rattle.std.proofs.Common.{◌∙◌, ap, inr, refl, subst, sym}
-use Rattle.slotted_analyses.specs.Meaning.{by_bare_nodes}
+use Rattle.slotted_data.specs.Meaning.{by_bare_nodes}
 use Rattle.slotted_data.specs.Carrying.{DataRests}
 use Rattle.slotted_data.specs.Held.{Held}
 use Rattle.slotted_data.proofs.Resting.{rests-taken}

@@ -1,6 +1,6 @@
 use Rattle.std.proofs.Common.{subst, sym}
 use Rattle.slotted_hashcons.specs.FiledRows.{Rows}
-use Rattle.slotted_analyses.specs.Meaning.{by_bare_nodes}
+use Rattle.slotted_data.specs.Meaning.{by_bare_nodes}
 use Rattle.slotted_data.specs.Carrying.{Carried}
 use Rattle.slotted_operations.proofs.Graphs.Finds.{good-finds}
 use Rattle.slotted_operations.proofs.Graphs.AtRest.{at-rest}
