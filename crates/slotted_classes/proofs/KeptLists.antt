@@ -1,9 +1,11 @@
 -- What is kept, as the lists of the model.
-use Rattle.std.proofs.Common.{◌≡◌, ◌<◌, ℕ, zero, suc, List, [], ◌∷◌, length, map, get_or, ap, refl, arith}
+use Rattle.std.proofs.Common.{◌≡◌, ◌<◌, ℕ, zero, suc, List, [], ◌∷◌, length, map, get_or, ap, refl, arith, subst}
 use Rattle.slotted_lists.proofs.Lists.{slice_index_or-map}
 use Rattle.slotted_languages.specs.NodeTerm.{nameless_node}
 use Rattle.slotted_model.specs.Find.{entry_at}
 use Rattle.slotted_model.specs.ProofList.{ProofEntry, equation_at}
+use Rattle.slotted_model.specs.Applied.{Applied}
+use Rattle.slotted_model.specs.Classes.{IsFull}
 use Rattle.slotted_proofs.specs.Entries.{Proven, entry_of, nothing_proven, statement_at}
 use Rattle.slotted_classes.specs.Kept.{Kept, ClassEntry, no_form, no_entry, find_at, nodes_of, entries_of, proofs_of}
 
@@ -33,3 +35,6 @@ pub any_default : {X : Type 0} (xs : List X) (k : ℕ) (d e : X) → k < length 
 any_default [] k d e l = absurd (omega arith)
 any_default (x ∷ xs) zero d e l = refl
 any_default (x ∷ xs) (suc k) d e l = any_default xs k d e (omega arith)
+
+pub full-within : (k : Kept) (a : Applied) → IsFull (nodes_of k) a → a.0 < length k.classes
+full-within k a full = subst (λ n. a.0 < n) (length-nodes_of k) full.in_range

@@ -20,10 +20,10 @@ use Rattle.slotted_model_symmetries.specs.Deciding.{IsDecided}
 use Rattle.slotted_model_symmetries.proofs.Rows.{decided_respects}
 use Rattle.slotted_model_symmetries.proofs.Trees.{equal_trees_are_looked_up}
 use Rattle.slotted_classes.specs.Kept.{Kept, nodes_of}
+use Rattle.slotted_classes.proofs.KeptLists.{full-within}
 use Rattle.slotted_costs.specs.Costs.{cost_of_term}
 use Rattle.slotted_hashcons.specs.FiledRows.{Rows, rows_in}
 use Rattle.slotted_hashcons.specs.WellFiled.{state_in}
-use Rattle.slotted_rebuilding.proofs.LargeClasses.{full-within}
 use Rattle.slotted_operations.specs.Causes.{class_found}
 use Rattle.slotted_operations.specs.Good.{Good, RestsWith, image_of}
 use Rattle.slotted_operations.specs.Graph.{Graph}

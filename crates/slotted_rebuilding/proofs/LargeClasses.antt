@@ -12,7 +12,7 @@ use Rattle.slotted_model.specs.Classes.{canonical_slots, IsFull}
 use Rattle.slotted_proofs.specs.declared.equation.Equation.{Equation as Sides}
 use Rattle.slotted_proofs.specs.Equations.{to_applied}
 use Rattle.slotted_classes.specs.Kept.{Kept, nodes_of}
-use Rattle.slotted_classes.proofs.KeptLists.{length-nodes_of}
+use Rattle.slotted_classes.proofs.KeptLists.{full-within}
 use Rattle.slotted_rebuilding.specs.Proving.{HasLargeClassOf}
 use Rattle.slotted_rebuilding.specs.Settling.{HasLargeUnaligned}
 use Rattle.slotted_rebuilding.specs.Grows.{Grows}
@@ -63,9 +63,6 @@ large-either k i j hi hj much = elim (cases_lt (length (canonical_slots (nodes_o
 -- a full id has a name for each slot of its class
 full-count : (k : Kept) (a : Applied) → IsFull (nodes_of k) a → length a.1 ≡ length (canonical_slots (nodes_of k) a.0)
 full-count k a full = sym (length-keys a.1) ∙ ap length full.slots
-
-pub full-within : (k : Kept) (a : Applied) → IsFull (nodes_of k) a → a.0 < length k.classes
-full-within k a full = subst (λ n. a.0 < n) (length-nodes_of k) full.in_range
 
 -- slots run out at the congruence of twins for a large class alone
 pub twins-large : (k : Kept) (e : Sides) → AreTwins k e → TwinsRunOut k e → HasLargeClass k

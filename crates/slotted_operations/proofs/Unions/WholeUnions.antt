@@ -23,7 +23,7 @@ use Rattle.slotted_model.proofs.Rebuilding.AfterUnions.{united-no_larger}
 use Rattle.slotted_proofs.specs.Entries.{Proven, entry_of, nothing_proven, statement_at, asserted_entry}
 use Rattle.slotted_classes.specs.Counts.{Counts}
 use Rattle.slotted_classes.specs.Kept.{Kept, nodes_of, entries_of, proofs_of, size_of, EntersIn}
-use Rattle.slotted_classes.proofs.KeptLists.{equation_at-of, length-nodes_of, length-proofs_of}
+use Rattle.slotted_classes.proofs.KeptLists.{equation_at-of, length-nodes_of, length-proofs_of, full-within}
 use Rattle.slotted_hashcons.specs.FiledRows.{Rows, rows_in}
 use Rattle.slotted_rebuilding.specs.Proving as unions
 use Rattle.slotted_classes.specs.StateOf.{state_of}
@@ -34,7 +34,6 @@ use Rattle.slotted_hashcons.specs.WellFiled.{state_in, IsWellFiled}
 use Rattle.slotted_rebuilding.specs.Filed.{UnitesFiled}
 use Rattle.slotted_rebuilding.specs.Turns.{Rebuilds}
 use Rattle.slotted_rebuilding.proofs.RebuildCounts.{rebuild-fits}
-use Rattle.slotted_rebuilding.proofs.LargeClasses.{full-within}
 use Rattle.slotted_operations.specs.Causes.{HasLargeClassIn, HasLargeClassOf, class_found}
 use Rattle.slotted_operations.specs.Good.{Good, KeepsNotes, NeverMore, NotesLast, RestsWith, image_of}
 use Rattle.slotted_operations.specs.Image.{Asserts, AreTogether, Continues, FoundAlike, Records, SameNames, asserted_in, found_id, live_size}
