@@ -123,9 +123,7 @@ fn add_both<L: Language, N: Analysis<L>>(
     ensures err { IfErr result CanRefuse }
 {
     let one = graph.add_syn_expr_quietly(left)?;
-    let _ = graph.is_failed();
     let two = graph.add_syn_expr_quietly(right)?;
-    let _ = graph.is_failed();
     Ok(Both {
         left: one,
         right: two,

@@ -26,7 +26,6 @@ pub(crate) fn checked<L: Language, N: Analysis<L>, S: Check>(
     ensures err { IfErr result CanRefuse }
 {
     let proof = step.check(equation, graph)?;
-    let _ = graph.is_failed();
     Ok(proof)
 }
 
@@ -48,7 +47,6 @@ pub(crate) fn explained<L: Language, N: Analysis<L>>(
         return Err(Error::BadStep);
     }
     let proof = graph.explain_ids(a, b)?;
-    let _ = graph.is_failed();
     Ok(proof)
 }
 

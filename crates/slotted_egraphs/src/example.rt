@@ -69,10 +69,11 @@ pub fn apply_once<L: Language>(
     requires { All (CanBeSearched L.form graph.old.table) rules.now }
     ensures { OnOk result (HasAppliedEach L.form graph.old graph.new rules.now) }
 {
-    let answer = apply_rewrites(alloc, graph, rules);
-    // This call is there for its clauses: what holds of each graph that has not failed.
-    let _ = graph.is_failed();
-    answer
+    let changed = apply_rewrites(alloc, graph, rules)?;
+    if graph.is_failed() {
+        return Err(Error::Failed);
+    }
+    Ok(changed)
 }
 
 /// Adds a term, applies rules until they change nothing or the limit of turns is reached, and extracts a term of the

@@ -1,16 +1,18 @@
 -- What each call knows of a graph that has not failed: how its parts tell what contracts see, and what its invariant says of them.
-use Rattle.std.proofs.Common.{◌≡◌, ◌⊎◌, ◌∙◌, false, ap, sym, inl, inr}
+use Rattle.std.proofs.Common.{◌≡◌, ◌⊎◌, ◌∙◌, false, ap, sym, inl, inr, refl}
 use Rattle.std.specs.Prelude.{Bool, IsTrue}
 use Rattle.std.proofs.lemmas.Bool.{false≢true}
 use base.Stored.{Gv}
 use Rattle.slotted_slots.specs.Table.{Table}
 use Rattle.slotted_classes.specs.Kept.{Kept}
 use Rattle.slotted_hashcons.specs.FiledRows.{Rows, rows_in}
+use Rattle.slotted_hashcons.specs.WellFiled.{state_in}
 use Rattle.slotted_data.specs.Meaning.{Meaning, by_bare_nodes}
 use Rattle.slotted_data.specs.Held.{Held}
 use Rattle.slotted_data.specs.Carrying.{DataRests}
 use Rattle.slotted_operations.specs.Good.{Good, HasFreshSlots, RestsWith, graph_of, image_of}
 use Rattle.slotted_operations.specs.Graph.{Graph}
+use Rattle.slotted_graph.specs.States.{IsGraph}
 
 pub record Inside (g : Graph) (t : Table) (k : Kept) (r : Rows) : Type 0 where
   pub good : Good k
@@ -47,3 +49,20 @@ module _ {Indexed Rested : Type 0} {g : Graph} {b : Bool} {part : Gv} (t : Table
 pub data-inside : {N D X : Type 0} (meaning : N → Meaning D) (n : N) {t : Table} {k : Kept} {r : Rows} {d : Held D} {b : Bool} → b ≡ false →
     IsTrue b ⊎ (Good k × HasFreshSlots t k × RestsWith k r × X × DataRests (by_bare_nodes (meaning n)) k r d) → DataRests (by_bare_nodes (meaning n)) k r d
 data-inside meaning n f invariant = (given f invariant).4
+
+-- parts that are good and rebuilt are those of a graph
+pub rebuilt-by : (t : Table) (k : Kept) (r : Rows) (part : Gv) → Good k → HasFreshSlots t k → RestsWith k r → IsGraph (graph_of false t k (rows_in r.filed) part)
+rebuilt-by t k r part good fresh rests = record {
+  well = refl;
+  state = state_in k r;
+  is_state = record {
+    kept = k;
+    rows = r;
+    good = good;
+    rests = rests;
+    fresh = fresh;
+    image = refl;
+    filed = refl;
+    state = refl;
+  };
+}

@@ -43,16 +43,11 @@ impl<L: Language, N: Analysis<L>> EGraph<L, N> {
         ensures only { IfErr result (λ e. (e ≡ Error.Failed) ⊎ IsShortage e) }
     {
         let id = self.add_quietly(node)?;
-        // This call is there for its clauses: what holds of each graph that has not failed.
-        let _ = self.is_failed();
         if self.pending_classes() == 0 {
             return Ok(id);
         }
         self.modify()?;
-        let again = self.add_quietly(node);
-        // This call is there for its clauses: what holds of each graph that has not failed.
-        let _ = self.is_failed();
-        again
+        self.add_quietly(node)
     }
 
     /// Returns what an e-node is looked up as. If there is no answer, adds a class of the e-node, whose slots are
@@ -95,10 +90,7 @@ impl<L: Language, N: Analysis<L>> EGraph<L, N> {
         if N::modifies() {
             return self.add_and_modify(&node);
         }
-        let answer = self.add_quietly(&node);
-        // This call is there for its clauses: what holds of each graph that has not failed.
-        let _ = self.is_failed();
-        answer
+        self.add_quietly(&node)
     }
 
     // Adds an e-node by syntactic e-nodes, and modifies classes.
@@ -114,8 +106,6 @@ impl<L: Language, N: Analysis<L>> EGraph<L, N> {
         ensures only { IfErr result (λ e. (e ≡ Error.Failed) ⊎ IsShortage e) }
     {
         let id = self.add_syn_quietly(node)?;
-        // This call is there for its clauses: what holds of each graph that has not failed.
-        let _ = self.is_failed();
         self.modify()?;
         Ok(id)
     }
@@ -158,10 +148,7 @@ impl<L: Language, N: Analysis<L>> EGraph<L, N> {
         if N::modifies() {
             return self.add_syn_and_modify(&node);
         }
-        let answer = self.add_syn_quietly(&node);
-        // This call is there for its clauses: what holds of each graph that has not failed.
-        let _ = self.is_failed();
-        answer
+        self.add_syn_quietly(&node)
     }
 
     // Adds a term, and modifies classes. An edit may change what the term is looked up as, so the term is added again
@@ -179,16 +166,11 @@ impl<L: Language, N: Analysis<L>> EGraph<L, N> {
         ensures only { IfErr result (λ e. (e ≡ Error.Failed) ⊎ IsShortage e) }
     {
         let id = self.add_expr_quietly(term)?;
-        // This call is there for its clauses: what holds of each graph that has not failed.
-        let _ = self.is_failed();
         if self.pending_classes() == 0 {
             return Ok(id);
         }
         self.modify()?;
-        let again = self.add_expr_quietly(term);
-        // This call is there for its clauses: what holds of each graph that has not failed.
-        let _ = self.is_failed();
-        again
+        self.add_expr_quietly(term)
     }
 
     /// Returns what a term is looked up as, from its innermost e-nodes on. Adds a class for each e-node for which there
@@ -234,10 +216,7 @@ impl<L: Language, N: Analysis<L>> EGraph<L, N> {
         if N::modifies() {
             return self.add_expr_and_modify(term);
         }
-        let answer = self.add_expr_quietly(term);
-        // This call is there for its clauses: what holds of each graph that has not failed.
-        let _ = self.is_failed();
-        answer
+        self.add_expr_quietly(term)
     }
 
     // Adds a term by syntactic e-nodes, and modifies classes.
@@ -254,8 +233,6 @@ impl<L: Language, N: Analysis<L>> EGraph<L, N> {
         ensures only { IfErr result (λ e. (e ≡ Error.Failed) ⊎ IsShortage e) }
     {
         let id = self.add_syn_expr_quietly(term)?;
-        // This call is there for its clauses: what holds of each graph that has not failed.
-        let _ = self.is_failed();
         self.modify()?;
         Ok(id)
     }
@@ -300,9 +277,6 @@ impl<L: Language, N: Analysis<L>> EGraph<L, N> {
         if N::modifies() {
             return self.add_syn_expr_and_modify(term);
         }
-        let answer = self.add_syn_expr_quietly(term);
-        // This call is there for its clauses: what holds of each graph that has not failed.
-        let _ = self.is_failed();
-        answer
+        self.add_syn_expr_quietly(term)
     }
 }

@@ -29,8 +29,6 @@ fn add_term<L: Language, N: Analysis<L>>(
     ensures err { IfErr result IsShortage }
 {
     let id = graph.add_syn_expr_quietly(term)?;
-    // This call is there for its clauses: what holds of each graph that has not failed.
-    let _ = graph.is_failed();
     Ok(id)
 }
 
@@ -49,8 +47,6 @@ fn unite<L: Language, N: Analysis<L>>(
     ensures err { IfErr result IsShortage }
 {
     graph.union_quietly(left, right, None)?;
-    // This call is there for its clauses: what holds of each graph that has not failed.
-    let _ = graph.is_failed();
     Ok(())
 }
 

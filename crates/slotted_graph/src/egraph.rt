@@ -328,6 +328,9 @@ impl<L: Language, N: Analysis<L>> EGraph<L, N> {
         ensures table { self.new.table ≡ self.old.table }
         ensures carries { OnOk result (CarriesData N.codes N.meaning self.old self.new) }
 
+        // A graph that has not failed is rebuilt.
+        ensures rests { IsTrue self.new.failed ⊎ IsGraph self.new }
+
         ensures stays { IsTrue self.old.failed → self.new ≡ self.old }
         ensures failed { IsErrOf result Error.Failed ↔ IsTrue self.old.failed }
         ensures fails { IsTrue self.new.failed ↔ IsErr result }

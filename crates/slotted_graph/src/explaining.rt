@@ -8,6 +8,7 @@ ghost use Rattle.slotted_operations.specs.Graph.{MakesAtMost};
 ghost use Rattle.slotted_operations.specs.Places.{term_slots};
 ghost use Rattle.slotted_graph.specs.Analysed.{CarriesData};
 ghost use Rattle.slotted_graph.specs.Writing.{ExplainsAndModifies, IfUnmodified, LeavesAsked};
+ghost use Rattle.slotted_graph.specs.States.{IsGraph};
 
 use crate::egraph::EGraph;
 use slotted_data::Analysis;
@@ -31,6 +32,9 @@ impl<L: Language, N: Analysis<L>> EGraph<L, N> {
         ensures modified { IsTrue self.new.failed
             ⊎ ExplainsAndModifies N.codes N.meaning N.may_ask N.modifies left.now right.now self.old self.new }
         ensures more { KnowsMore self.old.table self.new.table }
+        // A graph that has not failed is rebuilt.
+        ensures rests { IsTrue self.new.failed ⊎ IsGraph self.new }
+
         ensures stays { IsTrue self.old.failed → self.new ≡ self.old }
         ensures failed { IsErrOf result Error.Failed ↔ IsTrue self.old.failed }
         ensures fails { IsTrue self.new.failed ↔ (IsErr result × ¬ IsErrOf result Error.NotEqual) }
@@ -78,6 +82,9 @@ impl<L: Language, N: Analysis<L>> EGraph<L, N> {
         ensures full { IfUnmodified N.modifies (IsErrOf result Error.OutOfSlots
             → RunsOutForTerms self.old.image left.now right.now self.old.table self.new.table) }
         ensures carries { IfUnmodified N.modifies (IsTrue self.new.failed ⊎ CarriesData N.codes N.meaning self.old self.new) }
+
+        // A graph that has not failed is rebuilt.
+        ensures rests { IsTrue self.new.failed ⊎ IsGraph self.new }
 
         ensures stays { IsTrue self.old.failed → self.new ≡ self.old }
         ensures failed { IsErrOf result Error.Failed ↔ IsTrue self.old.failed }

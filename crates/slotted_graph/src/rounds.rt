@@ -58,8 +58,6 @@ pub fn modify_once<L: Language, N: Analysis<L>>(
         return Err(Error::Failed);
     }
     let ids = graph.take_pending()?;
-    // This call is there for its clauses: what holds of each graph that has not failed.
-    let _ = graph.is_failed();
     modify_each(graph, alloc, &ids)
 }
 

@@ -126,9 +126,6 @@ impl<L: Language, N: Analysis<L>> EGraph<L, N> {
         if N::modifies() {
             return self.unite_and_modify(l, r, text);
         }
-        let answer = self.union_quietly(l, r, text);
-        // This call is there for its clauses: what holds of each graph that has not failed.
-        let _ = self.is_failed();
-        answer
+        self.union_quietly(l, r, text)
     }
 }

@@ -56,10 +56,7 @@ fn put_in<L: Language, N: Analysis<L>, M: OwnSubst<L, N>>(
     let b = graph.full_id(b)?;
     let x = graph.full_id(x)?;
     let t = graph.full_id(t)?;
-    let answer = method.subst(alloc, b, x, t, graph);
-    // This call is there for its clauses: what holds of each graph that has not failed.
-    let _ = graph.is_failed();
-    answer
+    method.subst(alloc, b, x, t, graph)
 }
 
 // Returns what the method answers for the last three ids of the list, which are taken from it.

@@ -51,6 +51,7 @@ pub trait OwnSubst<L: Language, N: Analysis<L>> {
         ensures asked { IfOk result (λ a. substitutes self.old graph.old
             (to_applied b) (to_applied x) (to_applied t) (to_applied a) self.new graph.new) }
         ensures extends { IsTrue graph.new.failed ⊎ ExtendsTo graph.old graph.new }
+        ensures rests { IsTrue graph.new.failed ⊎ IsGraph graph.new }
         ensures carries { IsTrue graph.new.failed
             ⊎ CarriesIf (IsKnownMethod method) N.codes N.meaning graph.old graph.new }
         ensures fails { IsTrue graph.new.failed → IsErrAnd result IsShortage }

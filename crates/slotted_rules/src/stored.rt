@@ -73,8 +73,6 @@ impl<L: Language, N: Analysis<L>> OwnSubst<L, N> for Extracted {
         let terms = graph.least_terms(&AstSize)?;
         let term = graph.least_term(&terms, &b)?;
         let body = graph.add_syn_expr_quietly(&term)?;
-        // This call is there for its clauses: what holds of each graph that has not failed.
-        let _ = graph.is_failed();
         replaced(alloc, graph, &body, &x, &t)
     }
 }

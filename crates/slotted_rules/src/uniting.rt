@@ -76,10 +76,7 @@ fn unite_full<L: Language, N: Analysis<L>>(
     let method = graph.subst_method();
     let left = build_stored_listed(alloc, graph, method, a, subst)?;
     let right = build_stored_listed(alloc, graph, method, b, subst)?;
-    let answer = graph.union_quietly(&left, &right, text);
-    // This call is there for its clauses: what holds of each graph that has not failed.
-    let _ = graph.is_failed();
-    answer
+    graph.union_quietly(&left, &right, text)
 }
 
 // Unites both instances, which are built over the same filled values.
@@ -113,10 +110,7 @@ fn fill_and_unite<L: Language, N: Analysis<L>>(
     let method = graph.subst_method();
     let left = build_stored_listed(alloc, graph, method, a, &filled)?;
     let right = build_stored_listed(alloc, graph, method, b, &filled)?;
-    let united = graph.union_quietly(&left, &right, text);
-    // This call is there for its clauses: what holds of each graph that has not failed.
-    let _ = graph.is_failed();
-    united
+    graph.union_quietly(&left, &right, text)
 }
 
 // Unites both instances, from the lists of the patterns in them. Values are copied only if one of them omits a name.

@@ -26,8 +26,6 @@ pub(crate) fn explanation<L: Printable>(
     ensures stays { IsTrue graph.old.failed → graph.new ≡ graph.old }
 {
     let proof = graph.explain_equivalence(&left.term, &right.term)?;
-    // This call is there for its clauses: what holds of each graph that has not failed.
-    let _ = graph.is_failed();
     proof.to_string(alloc, graph)
 }
 
@@ -46,8 +44,6 @@ pub(crate) fn chain<L: Printable>(
     ensures stays { IsTrue graph.old.failed → graph.new ≡ graph.old }
 {
     let proof = graph.explain_equivalence(&left.term, &right.term)?;
-    // This call is there for its clauses: what holds of each graph that has not failed.
-    let _ = graph.is_failed();
     proof.to_flat_string(alloc, graph)
 }
 
@@ -66,7 +62,5 @@ pub(crate) fn marked_chain<L: Printable>(
     ensures stays { IsTrue graph.old.failed → graph.new ≡ graph.old }
 {
     let proof = graph.explain_equivalence(&left.term, &right.term)?;
-    // This call is there for its clauses: what holds of each graph that has not failed.
-    let _ = graph.is_failed();
     proof.to_marked_string(alloc, graph)
 }

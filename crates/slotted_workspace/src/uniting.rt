@@ -26,8 +26,6 @@ pub(crate) fn unite<L: Language>(
     ensures stays { IsTrue graph.old.failed → graph.new ≡ graph.old }
 {
     let answer = graph.union_justified(&left.id, &right.id, text)?;
-    // This call is there for its clauses: what holds of each graph that has not failed.
-    let _ = graph.is_failed();
     Ok(answer)
 }
 

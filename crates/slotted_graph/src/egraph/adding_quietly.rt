@@ -19,6 +19,7 @@ ghost use Rattle.slotted_operations.specs.LookUp.{IsOneGraph, KeepsLookUps, Make
 ghost use Rattle.slotted_operations.specs.Places.{term_slots};
 ghost use Rattle.slotted_operations.specs.Reports.{IsFound};
 ghost use Rattle.slotted_graph.specs.Analysed.{CarriesData};
+ghost use Rattle.slotted_graph.specs.States.{IsGraph};
 
 use super::EGraph;
 use crate::writes::adding;
@@ -77,6 +78,9 @@ impl<L: Language, N: Analysis<L>> EGraph<L, N> {
         // Data is only lowered. New classes, and those whose data has changed, wait to be modified.
         ensures carries { OnOk result (CarriesData N.codes N.meaning self.old self.new) }
 
+        // A graph that has not failed is rebuilt.
+        ensures rests { IsTrue self.new.failed ⊎ IsGraph self.new }
+
         // A failed graph stays as it is.
         ensures stays { IsTrue self.old.failed → self.new ≡ self.old }
         ensures failed { IsErrOf result Error.Failed ↔ IsTrue self.old.failed }
@@ -123,6 +127,9 @@ impl<L: Language, N: Analysis<L>> EGraph<L, N> {
 
         // Data is only lowered. New classes, and those whose data has changed, wait to be modified.
         ensures carries { OnOk result (CarriesData N.codes N.meaning self.old self.new) }
+
+        // A graph that has not failed is rebuilt.
+        ensures rests { IsTrue self.new.failed ⊎ IsGraph self.new }
 
         // A failed graph stays as it is.
         ensures stays { IsTrue self.old.failed → self.new ≡ self.old }
@@ -177,6 +184,9 @@ impl<L: Language, N: Analysis<L>> EGraph<L, N> {
         // Data is only lowered. New classes, and those whose data has changed, wait to be modified.
         ensures carries { OnOk result (CarriesData N.codes N.meaning self.old self.new) }
 
+        // A graph that has not failed is rebuilt.
+        ensures rests { IsTrue self.new.failed ⊎ IsGraph self.new }
+
         // A failed graph stays as it is.
         ensures stays { IsTrue self.old.failed → self.new ≡ self.old }
         ensures failed { IsErrOf result Error.Failed ↔ IsTrue self.old.failed }
@@ -227,6 +237,9 @@ impl<L: Language, N: Analysis<L>> EGraph<L, N> {
 
         // Data is only lowered. New classes, and those whose data has changed, wait to be modified.
         ensures carries { OnOk result (CarriesData N.codes N.meaning self.old self.new) }
+
+        // A graph that has not failed is rebuilt.
+        ensures rests { IsTrue self.new.failed ⊎ IsGraph self.new }
 
         // A failed graph stays as it is.
         ensures stays { IsTrue self.old.failed → self.new ≡ self.old }

@@ -7,6 +7,7 @@ ghost use Rattle.slotted_operations.specs.LookUp.{HasSameClasses};
 ghost use Rattle.slotted_graph.specs.Analysed.{AbsorbsMade, CountsPending, HasData, HasRounds, IsAnalysisOf, MergesData, SetsRounds, TakesPending};
 ghost use Rattle.slotted_graph.specs.Rounds.{IsModified};
 ghost use Rattle.slotted_graph.specs.Writing.{IfUnmodified};
+ghost use Rattle.slotted_graph.specs.States.{IsGraph};
 
 use super::EGraph;
 use crate::rounds::modify_in_rounds;
@@ -107,6 +108,9 @@ impl<L: Language, N: Analysis<L>> EGraph<L, N> {
         ensures taken { IfOk result (λ v. TakesPending N.codes self.old self.new (class_numbers v.items)) }
         ensures same { OnOk result (HasSameClasses self.old self.new) }
         ensures table { self.new.table ≡ self.old.table }
+
+        // A graph that has not failed is rebuilt.
+        ensures rests { IsTrue self.new.failed ⊎ IsGraph self.new }
 
         ensures stays { IsTrue self.old.failed → self.new ≡ self.old }
         ensures failed { IsErrOf result Error.Failed ↔ IsTrue self.old.failed }

@@ -7,6 +7,7 @@ ghost use Rattle.slotted_operations.specs.Causes.{HasLargeClassOf};
 ghost use Rattle.slotted_operations.specs.Explaining.{AddsTerms, KeepsClasses, StandsAt};
 ghost use Rattle.slotted_operations.specs.Graph.{IsFullId};
 ghost use Rattle.slotted_operations.specs.Image.{FoundAlike};
+ghost use Rattle.slotted_graph.specs.States.{IsGraph};
 
 use super::EGraph;
 use slotted_data::Analysis;
@@ -33,6 +34,9 @@ impl<L: Language, N: Analysis<L>> EGraph<L, N> {
         // Entries of the proof list are all that is new, and they assert nothing.
         ensures kept { IsTrue self.new.failed ⊎ KeepsClasses self.old self.new }
         ensures adds { IsTrue self.new.failed ⊎ AddsTerms self.old.image self.new.image }
+
+        // A graph that has not failed is rebuilt.
+        ensures rests { IsTrue self.new.failed ⊎ IsGraph self.new }
 
         ensures stays { IsTrue self.old.failed → self.new ≡ self.old }
         ensures failed { IsErrOf result Error.Failed ↔ IsTrue self.old.failed }

@@ -7,6 +7,7 @@ ghost use Rattle.slotted_operations.specs.Explaining.{AddsTerms, Explains, Files
 ghost use Rattle.slotted_operations.specs.Graph.{MakesAtMost};
 ghost use Rattle.slotted_operations.specs.Places.{term_slots};
 ghost use Rattle.slotted_graph.specs.Analysed.{CarriesData};
+ghost use Rattle.slotted_graph.specs.States.{IsGraph};
 
 use super::EGraph;
 use crate::writes::explaining;
@@ -46,6 +47,9 @@ impl<L: Language, N: Analysis<L>> EGraph<L, N> {
 
         // Data is only lowered. New classes, and those whose data has changed, wait to be modified.
         ensures carries { IsTrue self.new.failed ⊎ CarriesData N.codes N.meaning self.old self.new }
+
+        // A graph that has not failed is rebuilt.
+        ensures rests { IsTrue self.new.failed ⊎ IsGraph self.new }
 
         ensures stays { IsTrue self.old.failed → self.new ≡ self.old }
         ensures failed { IsErrOf result Error.Failed ↔ IsTrue self.old.failed }

@@ -3,6 +3,7 @@ ghost use Rattle.std.specs.Prelude.{◌≡◌, ◌⊎◌, ◌↔◌, IsTrue, IfO
 ghost use Rattle.slotted_model.specs.ProofList.{Step, reflexive, symmetric, transitive, congruent};
 ghost use Rattle.slotted_proofs.specs.Steps.{IsRefusal};
 ghost use Rattle.slotted_operations.specs.Checks.{Fits, CanRunOut, Accepts, IsDerivable, FollowsFromEntry, entry_by};
+ghost use Rattle.slotted_graph.specs.States.{IsGraph};
 
 use crate::egraph::EGraph;
 use slotted_data::Analysis;
@@ -36,6 +37,9 @@ pub trait Check {
 
         // The equation follows from the asserted leaves of its own tree alone.
         ensures leaves { IfOk result (FollowsFromEntry graph.new.image equation.now) }
+
+        // A graph that has not failed is rebuilt.
+        ensures rests { IsTrue graph.new.failed ⊎ IsGraph graph.new }
 
         ensures err { OnErr result (graph.new ≡ graph.old) }
         ensures failed { IsErrOf result Error.Failed ↔ IsTrue graph.old.failed }

@@ -16,10 +16,10 @@ returns-clause-goes g c =
     let start = c.args.graph.now in
     let k = c.add_syn_expr_quietly.new.self in
     let h = c.add_syn_expr_quietly-2.new.self in
-    let one = leads-with g.N.Analysis.codes g.N.Analysis.meaning start k (goes-added start k (good-graph k (λ bad. false≢true (c.in_ok-one.ensures.fails.0 bad)) c.is_failed.ensures.rests) c.in_ok-one.ensures.extends c.in_ok-one.ensures.adds c.add_syn_expr_quietly.ensures.more)
+    let one = leads-with g.N.Analysis.codes g.N.Analysis.meaning start k (goes-added start k (good-graph k (λ bad. false≢true (c.in_ok-one.ensures.fails.0 bad)) c.add_syn_expr_quietly.ensures.rests) c.in_ok-one.ensures.extends c.in_ok-one.ensures.adds c.add_syn_expr_quietly.ensures.more)
     (carried-lowers g.N.Analysis.codes g.N.Analysis.meaning start k c.in_ok-one.ensures.carries) in
     leads-then g.N.Analysis.codes g.N.Analysis.meaning g.met.N.Analysis.is_merge start k h one
-    (leads-with g.N.Analysis.codes g.N.Analysis.meaning k h (goes-added k h (good-graph h (λ bad. false≢true (c.in_ok-two.ensures.fails.0 bad)) c.is_failed-2.ensures.rests) c.in_ok-two.ensures.extends c.in_ok-two.ensures.adds c.add_syn_expr_quietly-2.ensures.more)
+    (leads-with g.N.Analysis.codes g.N.Analysis.meaning k h (goes-added k h (good-graph h (λ bad. false≢true (c.in_ok-two.ensures.fails.0 bad)) c.add_syn_expr_quietly-2.ensures.rests) c.in_ok-two.ensures.extends c.in_ok-two.ensures.adds c.add_syn_expr_quietly-2.ensures.more)
     (carried-lowers g.N.Analysis.codes g.N.Analysis.meaning k h c.in_ok-two.ensures.carries))
 
 pub returns-clause-left : goal.returns-clause-left
@@ -27,5 +27,5 @@ returns-clause-left g c =
     let k = c.add_syn_expr_quietly.new.self in
     let h = c.add_syn_expr_quietly-2.new.self in
     stands-later k h (to_applied c.in_ok-one.one) c.args.left.now
-    (goes-added k h (good-graph h (λ bad. false≢true (c.in_ok-two.ensures.fails.0 bad)) c.is_failed-2.ensures.rests) c.in_ok-two.ensures.extends c.in_ok-two.ensures.adds c.add_syn_expr_quietly-2.ensures.more)
+    (goes-added k h (good-graph h (λ bad. false≢true (c.in_ok-two.ensures.fails.0 bad)) c.add_syn_expr_quietly-2.ensures.rests) c.in_ok-two.ensures.extends c.in_ok-two.ensures.adds c.add_syn_expr_quietly-2.ensures.more)
     (record { full = c.in_ok-one.ensures.valid; term = c.in_ok-one.ensures.term })

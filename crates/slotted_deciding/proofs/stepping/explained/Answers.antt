@@ -18,7 +18,7 @@ explain_ids-requires-clause-right g c =
 pub returns-clause-goes : goal.returns-clause-goes
 returns-clause-goes g c =
     let h = c.explain_ids.new.self in
-    let is = good-graph h (λ bad. false≢true (c.in_ok-proof.ensures.fails.0 bad).0) c.is_failed.ensures.rests in
+    let is = good-graph h (λ bad. false≢true (c.in_ok-proof.ensures.fails.0 bad).0) c.explain_ids.ensures.rests in
     let kept = given is.well c.in_ok-proof.ensures.kept in
     let goes = goes-explained c.args.graph.now h is kept (given is.well c.in_ok-proof.ensures.adds) in
     leads-with g.N.Analysis.codes g.N.Analysis.meaning c.args.graph.now h goes (lowers-same g.N.Analysis.codes g.N.Analysis.meaning g.met.N.Analysis.is_merge c.args.graph.now h goes.extends.canonical kept.found kept.part)

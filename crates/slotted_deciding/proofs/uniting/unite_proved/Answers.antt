@@ -13,7 +13,7 @@ returns-clause-goes g c =
     let e = c.args.equation.now in
     let left = said-full graph (to_applied e.l) c.is_full.result c.is_full.ensures c.if-not-is_full.false in
     let right = said-full graph (to_applied e.r) c.is_full-2.result c.is_full-2.ensures c.if-not-is_full-2.false in
-    let is = good-graph c.union_quietly.new.self (λ bad. false≢true (c.in_ok-union_quietly.ensures.fails.0 bad)) c.is_failed.ensures.rests in
+    let is = good-graph c.union_quietly.new.self (λ bad. false≢true (c.in_ok-union_quietly.ensures.fails.0 bad)) c.union_quietly.ensures.rests in
     let goes = goes-united graph c.union_quietly.new.self e.l e.r _ c.in_ok-union_quietly.field-0 is left right
     (c.args.proof, c.requires.stands.0, c.requires.stands.1) c.in_ok-union_quietly.ensures.union c.in_ok-union_quietly.ensures.text c.in_ok-union_quietly.ensures.table in
     leads-with g.N.Analysis.codes g.N.Analysis.meaning graph c.union_quietly.new.self goes (carried-lowers g.N.Analysis.codes g.N.Analysis.meaning graph c.union_quietly.new.self c.in_ok-union_quietly.ensures.carries)

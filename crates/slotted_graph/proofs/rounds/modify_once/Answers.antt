@@ -6,7 +6,7 @@ use Rattle.slotted_graph.proofs.Saying.{graph-kept, if-ok}
 use Rattle.slotted_graph.proofs.rounds.modify_once.Goals as goal
 
 pub modify_each-requires : goal.modify_each-requires
-modify_each-requires g c = graph-kept c.take_pending.new.self c.is_failed-2.ensures.rests c.in_ok-ids.ensures.fails.0
+modify_each-requires g c = graph-kept c.take_pending.new.self c.take_pending.ensures.rests c.in_ok-ids.ensures.fails.0
 
 pub returns-clause-leaves : goal.returns-clause-leaves
 returns-clause-leaves g c =
@@ -20,7 +20,7 @@ returns-clause-leaves g c =
     (λ y m. round-leaves codes meaning g.met.N.Analysis.is_merge ask old new y (record {
       classes = class_numbers c.in_ok-ids.ids.items;
       left = left;
-      graph = graph-kept left c.is_failed-2.ensures.rests c.in_ok-ids.ensures.fails.0;
+      graph = graph-kept left c.take_pending.ensures.rests c.in_ok-ids.ensures.fails.0;
       takes = c.in_ok-ids.ensures.taken;
       same = c.in_ok-ids.ensures.same;
       modifies = subst (λ is. Modifies codes meaning ask left (class_numbers is) new y) c.deref.ensures.value m;

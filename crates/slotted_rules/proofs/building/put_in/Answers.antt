@@ -31,23 +31,23 @@ pub returns-in_err-t-clause-err : goal.returns-in_err-t-clause-err
 returns-in_err-t-clause-err g c =
     err-then c.from_residual-in_err-t.result (inr (filled-grows c.args.graph.now c.full_id.new.self c.full_id-2.new.self c.full_id-3.new.self c.requires.graph c.full_id.ensures.takes c.full_id-2.ensures.takes c.full_id-3.ensures.takes))
 
-pub subst-answer-requires-clause-graph : goal.subst-answer-requires-clause-graph
-subst-answer-requires-clause-graph g c =
+pub subst-requires-clause-graph : goal.subst-requires-clause-graph
+subst-requires-clause-graph g c =
     (filled-grows c.args.graph.now c.full_id.new.self c.full_id-2.new.self c.full_id-3.new.self c.requires.graph c.full_id.ensures.takes c.full_id-2.ensures.takes c.full_id-3.ensures.takes).graph
 
 pub returns-clause-ok : goal.returns-clause-ok
 returns-clause-ok g c =
-    ok-put g.M.OwnSubst.method c.args.graph.now c.full_id.new.self c.full_id-2.new.self c.full_id-3.new.self c.subst-answer.new.graph
+    ok-put g.M.OwnSubst.method c.args.graph.now c.full_id.new.self c.full_id-2.new.self c.full_id-3.new.self c.subst.new.graph
     (to_applied c.args.b.now) (to_applied c.args.x.now) (to_applied c.args.t.now) (to_applied c.in_ok-b.b) (to_applied c.in_ok-x.x) (to_applied c.in_ok-t.t)
     c.requires.graph c.full_id.ensures.takes c.full_id-2.ensures.takes c.full_id-3.ensures.takes c.in_ok-b.ensures.fills c.in_ok-x.ensures.fills c.in_ok-t.ensures.fills
-    c.subst-answer.result c.is_failed.ensures.rests c.subst-answer.ensures.extends c.subst-answer.ensures.fails c.subst-answer.ensures.valid c.subst-answer.ensures.stands
+    c.subst.result c.subst.ensures.rests c.subst.ensures.extends c.subst.ensures.fails c.subst.ensures.valid c.subst.ensures.stands
 
 pub returns-clause-err : goal.returns-clause-err
 returns-clause-err g c =
     let i = c.full_id-3.new.self in
-    let h = c.subst-answer.new.graph in
+    let h = c.subst.new.graph in
     let all = filled-grows c.args.graph.now c.full_id.new.self c.full_id-2.new.self i c.requires.graph c.full_id.ensures.takes c.full_id-2.ensures.takes c.full_id-3.ensures.takes in
-    err-then c.subst-answer.result (later-grows c.args.graph.now i h all (extended-grows i h c.is_failed.ensures.rests c.subst-answer.ensures.extends))
+    err-then c.subst.result (later-grows c.args.graph.now i h all (extended-grows i h c.subst.ensures.rests c.subst.ensures.extends))
 
 pub returns-in_err-b-clause-carries : goal.returns-in_err-b-clause-carries
 returns-in_err-b-clause-carries g c = inr (carries-takes g.N.Analysis.codes g.N.Analysis.meaning g.met.N.Analysis.is_merge c.args.graph.now c.full_id.new.self c.full_id.ensures.takes)
@@ -66,9 +66,9 @@ pub returns-clause-carries : goal.returns-clause-carries
 returns-clause-carries g c =
     let i = c.full_id-3.new.self in
     let filled = filled-carries g.N.Analysis.codes g.N.Analysis.meaning g.met.N.Analysis.is_merge c.args.graph.now c.full_id.new.self c.full_id-2.new.self i c.full_id.ensures.takes c.full_id-2.ensures.takes c.full_id-3.ensures.takes in
-    later-carries g.N.Analysis.codes g.N.Analysis.meaning g.met.N.Analysis.is_merge c.args.graph.now i c.subst-answer.new.graph filled.0 filled.1 c.subst-answer.ensures.carries
+    later-carries g.N.Analysis.codes g.N.Analysis.meaning g.met.N.Analysis.is_merge c.args.graph.now i c.subst.new.graph filled.0 filled.1 c.subst.ensures.carries
 
 pub returns-clause-asks : goal.returns-clause-asks
 returns-clause-asks g c =
     let before = asks-filled g.M.OwnSubst.substitutes c.args.method.now c.args.graph.now c.full_id.new.self c.full_id-2.new.self c.full_id-3.new.self c.full_id.ensures.takes c.full_id-2.ensures.takes c.full_id-3.ensures.takes in
-    asks-once g.M.OwnSubst.substitutes c.args.method.now c.args.graph.now c.subst-answer.new.self c.subst-answer.new.graph (to_applied c.in_ok-b.b) (to_applied c.in_ok-x.x) (to_applied c.in_ok-t.t) to_applied c.subst-answer.result before c.subst-answer.ensures.asked c.subst-answer.ensures.fails c.subst-answer.ensures.extends
+    asks-once g.M.OwnSubst.substitutes c.args.method.now c.args.graph.now c.subst.new.self c.subst.new.graph (to_applied c.in_ok-b.b) (to_applied c.in_ok-x.x) (to_applied c.in_ok-t.t) to_applied c.subst.result before c.subst.ensures.asked c.subst.ensures.fails c.subst.ensures.extends

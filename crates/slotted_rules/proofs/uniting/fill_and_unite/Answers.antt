@@ -44,10 +44,10 @@ union_quietly-united-requires-clause-left g c = inr (c.in_ok-right.ensures.ok.gr
 pub returns-clause-unites : goal.returns-clause-unites
 returns-clause-unites g c =
     let form = g.L.LanguageChildren.form in
-    ok-united c.subst_method-method.result c.args.graph.now c.full_values.new.graph c.build_stored_listed.new.graph c.build_stored_listed-2.new.graph c.union_quietly-united.new.self (values_of c.args.subst.now) (values_of c.in_ok-filled.filled)
+    ok-united c.subst_method-method.result c.args.graph.now c.full_values.new.graph c.build_stored_listed.new.graph c.build_stored_listed-2.new.graph c.union_quietly.new.self (values_of c.args.subst.now) (values_of c.in_ok-filled.filled)
     (tree_of form c.args.a.now.pattern.now) (tree_of form c.args.b.now.pattern.now) c.in_ok-left.left c.in_ok-right.right (text_bytes c.args.text) c.requires.graph
     c.full_values.ensures.takes c.in_ok-filled.ensures.fills c.in_ok-filled.ensures.full c.in_ok-left.ensures.ok c.in_ok-right.ensures.ok
-    c.union_quietly-united.result c.is_failed.ensures.rests c.union_quietly-united.ensures.fails.0 c.union_quietly-united.ensures.union c.union_quietly-united.ensures.text c.union_quietly-united.ensures.table
+    c.union_quietly.result c.union_quietly.ensures.rests c.union_quietly.ensures.fails.0 c.union_quietly.ensures.union c.union_quietly.ensures.text c.union_quietly.ensures.table
 
 -- where the values could not be filled, slots were taken alone
 pub returns-in_err-filled-clause-carries : goal.returns-in_err-filled-clause-carries
@@ -78,7 +78,7 @@ returns-clause-carries g c =
     let d = c.full_values.new.graph in
     let e = c.build_stored_listed.new.graph in
     let f = c.build_stored_listed-2.new.graph in
-    let h = c.union_quietly-united.new.self in
+    let h = c.union_quietly.new.self in
     let left = c.in_ok-left.ensures.ok.grows in
     let right = c.in_ok-right.ensures.ok.grows in
     let taken = extends-takes g0 d c.full_values.ensures.takes in
@@ -87,4 +87,4 @@ returns-clause-carries g c =
     let there = extends-then g0 d e taken left.extends in
     let both = carries-on g.N.Analysis.codes g.N.Analysis.meaning g.met.N.Analysis.is_merge g0 e f there first right.graph.well c.build_stored_listed-2.ensures.carries in
     later-carries g.N.Analysis.codes g.N.Analysis.meaning g.met.N.Analysis.is_merge g0 f h (extends-then g0 e f there right.extends) both
-    (written-carries g.N.Analysis.codes g.N.Analysis.meaning c.union_quietly-united.result f h c.union_quietly-united.ensures.fails.1 c.union_quietly-united.ensures.carries)
+    (written-carries g.N.Analysis.codes g.N.Analysis.meaning c.union_quietly.result f h c.union_quietly.ensures.fails.1 c.union_quietly.ensures.carries)

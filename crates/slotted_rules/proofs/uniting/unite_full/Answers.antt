@@ -30,10 +30,10 @@ returns-clause-unites g c =
     let form = g.L.LanguageChildren.form in
     let g0 = c.args.graph.now in
     let s = values_of c.args.subst.now in
-    ok-united c.subst_method-method.result g0 g0 c.build_stored_listed.new.graph c.build_stored_listed-2.new.graph c.union_quietly-answer.new.self s s
+    ok-united c.subst_method-method.result g0 g0 c.build_stored_listed.new.graph c.build_stored_listed-2.new.graph c.union_quietly.new.self s s
     (tree_of form c.args.a.now.pattern.now) (tree_of form c.args.b.now.pattern.now) c.in_ok-left.left c.in_ok-right.right (text_bytes c.args.text) c.requires.graph
     (takes-none g0) (fills-full g0 [] s c.requires.full) c.requires.full c.in_ok-left.ensures.ok c.in_ok-right.ensures.ok
-    c.union_quietly-answer.result c.is_failed.ensures.rests c.union_quietly-answer.ensures.fails.0 c.union_quietly-answer.ensures.union c.union_quietly-answer.ensures.text c.union_quietly-answer.ensures.table
+    c.union_quietly.result c.union_quietly.ensures.rests c.union_quietly.ensures.fails.0 c.union_quietly.ensures.union c.union_quietly.ensures.text c.union_quietly.ensures.table
 
 pub returns-in_err-right-clause-carries : goal.returns-in_err-right-clause-carries
 returns-in_err-right-clause-carries g c =
@@ -48,10 +48,10 @@ returns-clause-carries g c =
     let g0 = c.args.graph.now in
     let e = c.build_stored_listed.new.graph in
     let f = c.build_stored_listed-2.new.graph in
-    let h = c.union_quietly-answer.new.self in
+    let h = c.union_quietly.new.self in
     let left = c.in_ok-left.ensures.ok.grows in
     let right = c.in_ok-right.ensures.ok.grows in
     let first = carries-now g.N.Analysis.codes g.N.Analysis.meaning g0 e left.graph.well c.build_stored_listed.ensures.carries in
     let both = carries-on g.N.Analysis.codes g.N.Analysis.meaning g.met.N.Analysis.is_merge g0 e f left.extends first right.graph.well c.build_stored_listed-2.ensures.carries in
     later-carries g.N.Analysis.codes g.N.Analysis.meaning g.met.N.Analysis.is_merge g0 f h (extends-then g0 e f left.extends right.extends) both
-    (written-carries g.N.Analysis.codes g.N.Analysis.meaning c.union_quietly-answer.result f h c.union_quietly-answer.ensures.fails.1 c.union_quietly-answer.ensures.carries)
+    (written-carries g.N.Analysis.codes g.N.Analysis.meaning c.union_quietly.result f h c.union_quietly.ensures.fails.1 c.union_quietly.ensures.carries)

@@ -33,7 +33,7 @@ returns-clause-ok g c =
     let found = proves graph between left.term right.term e.more e.takes e.adds e.filed e.kept p sound e.explains in
     OnOk-always c.to_flat_string.result
     (chains g.L.Printable.written graph between c.to_flat_string.new.graph left right p (sound_graph graph.failed (Ok p) p refl e.failed.1) sound found (kept-answered graph p e.failed c.requires.left) (kept-answered graph p e.failed c.requires.right)
-    c.is_failed.ensures.rests c.to_flat_string.ensures.takes c.to_flat_string.ensures.count)
+    c.explain_equivalence.ensures.rests c.to_flat_string.ensures.takes c.to_flat_string.ensures.count)
 
 pub returns-clause-err : goal.returns-clause-err
 returns-clause-err g c =

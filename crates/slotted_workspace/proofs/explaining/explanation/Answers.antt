@@ -34,7 +34,7 @@ returns-clause-ok g c =
     let found = proves graph between left.term right.term e.more e.takes e.adds e.filed e.kept p sound e.explains in
     IfOk-weaker c.to_string.result (λ s. IsProofText g.L.Printable.written between c.to_string.new.graph p (string_bytes s)) (ExplainsTerms g.L.Printable.written graph c.to_string.new.graph left.term right.term)
     (λ text printed. explains g.L.Printable.written graph between c.to_string.new.graph left right p (sound_graph graph.failed (Ok p) p refl e.failed.1) sound found (kept-answered graph p e.failed c.requires.left) (kept-answered graph p e.failed c.requires.right)
-    text c.is_failed.ensures.rests c.to_string.ensures.takes printed) c.to_string.ensures.text
+    text c.explain_equivalence.ensures.rests c.to_string.ensures.takes printed) c.to_string.ensures.text
 
 pub returns-clause-err : goal.returns-clause-err
 returns-clause-err g c =

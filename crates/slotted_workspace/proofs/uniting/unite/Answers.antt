@@ -17,7 +17,7 @@ returns-clause-ok g c =
     let e = c.in_ok-answer.ensures in
     let y = c.in_ok-answer.answer in
     unites graph c.args.left.now c.args.right.now (kept-answered graph y e.failed c.requires.left) (kept-answered graph y e.failed c.requires.right) c.union_justified.new.self (text_bytes c.args.text) y
-    (λ f. false≢true (e.fails.0 f)) c.is_failed.ensures.rests e.union e.text e.table
+    (λ f. false≢true (e.fails.0 f)) (inr e.unites.rounds.leaves.graph) e.union e.text e.table
 
 pub returns-clause-extends : goal.returns-clause-extends
 returns-clause-extends g c =

@@ -7,43 +7,43 @@ pub returns-then-modifies-clause-kept : goal.returns-then-modifies-clause-kept
 returns-then-modifies-clause-kept g c = is-modified g.N.Analysis.modifies (sym c.modifies.ensures ∙ c.if-modifies.true) _
 
 pub returns-clause-kept : goal.returns-clause-kept
-returns-clause-kept g c = unmodified g.N.Analysis.modifies (sym c.modifies.ensures ∙ c.if-modifies.false) _ c.add_quietly-answer.ensures.kept
+returns-clause-kept g c = unmodified g.N.Analysis.modifies (sym c.modifies.ensures ∙ c.if-modifies.false) _ c.add_quietly.ensures.kept
 
 pub returns-then-modifies-clause-made : goal.returns-then-modifies-clause-made
 returns-then-modifies-clause-made g c = is-modified g.N.Analysis.modifies (sym c.modifies.ensures ∙ c.if-modifies.true) _
 
 pub returns-clause-made : goal.returns-clause-made
-returns-clause-made g c = unmodified g.N.Analysis.modifies (sym c.modifies.ensures ∙ c.if-modifies.false) _ c.add_quietly-answer.ensures.made
+returns-clause-made g c = unmodified g.N.Analysis.modifies (sym c.modifies.ensures ∙ c.if-modifies.false) _ c.add_quietly.ensures.made
 
 pub returns-then-modifies-clause-answers : goal.returns-then-modifies-clause-answers
 returns-then-modifies-clause-answers g c = is-modified g.N.Analysis.modifies (sym c.modifies.ensures ∙ c.if-modifies.true) _
 
 pub returns-clause-answers : goal.returns-clause-answers
-returns-clause-answers g c = unmodified g.N.Analysis.modifies (sym c.modifies.ensures ∙ c.if-modifies.false) _ c.add_quietly-answer.ensures.answers
+returns-clause-answers g c = unmodified g.N.Analysis.modifies (sym c.modifies.ensures ∙ c.if-modifies.false) _ c.add_quietly.ensures.answers
 
 pub returns-then-modifies-clause-adds : goal.returns-then-modifies-clause-adds
 returns-then-modifies-clause-adds g c = is-modified g.N.Analysis.modifies (sym c.modifies.ensures ∙ c.if-modifies.true) _
 
 pub returns-clause-adds : goal.returns-clause-adds
-returns-clause-adds g c = unmodified g.N.Analysis.modifies (sym c.modifies.ensures ∙ c.if-modifies.false) _ c.add_quietly-answer.ensures.adds
+returns-clause-adds g c = unmodified g.N.Analysis.modifies (sym c.modifies.ensures ∙ c.if-modifies.false) _ c.add_quietly.ensures.adds
 
 pub returns-then-modifies-clause-takes : goal.returns-then-modifies-clause-takes
 returns-then-modifies-clause-takes g c = is-modified g.N.Analysis.modifies (sym c.modifies.ensures ∙ c.if-modifies.true) _
 
 pub returns-clause-takes : goal.returns-clause-takes
-returns-clause-takes g c = unmodified g.N.Analysis.modifies (sym c.modifies.ensures ∙ c.if-modifies.false) _ c.add_quietly-answer.ensures.takes
+returns-clause-takes g c = unmodified g.N.Analysis.modifies (sym c.modifies.ensures ∙ c.if-modifies.false) _ c.add_quietly.ensures.takes
 
 pub returns-then-modifies-clause-full : goal.returns-then-modifies-clause-full
 returns-then-modifies-clause-full g c = is-modified g.N.Analysis.modifies (sym c.modifies.ensures ∙ c.if-modifies.true) _
 
 pub returns-clause-full : goal.returns-clause-full
-returns-clause-full g c = unmodified g.N.Analysis.modifies (sym c.modifies.ensures ∙ c.if-modifies.false) _ c.add_quietly-answer.ensures.full
+returns-clause-full g c = unmodified g.N.Analysis.modifies (sym c.modifies.ensures ∙ c.if-modifies.false) _ c.add_quietly.ensures.full
 
 pub returns-then-modifies-clause-carries : goal.returns-then-modifies-clause-carries
 returns-then-modifies-clause-carries g c = is-modified g.N.Analysis.modifies (sym c.modifies.ensures ∙ c.if-modifies.true) _
 
 pub returns-clause-carries : goal.returns-clause-carries
-returns-clause-carries g c = unmodified g.N.Analysis.modifies (sym c.modifies.ensures ∙ c.if-modifies.false) _ c.add_quietly-answer.ensures.carries
+returns-clause-carries g c = unmodified g.N.Analysis.modifies (sym c.modifies.ensures ∙ c.if-modifies.false) _ c.add_quietly.ensures.carries
 
 pub returns-then-modifies-clause-leaves : goal.returns-then-modifies-clause-leaves
 returns-then-modifies-clause-leaves g c = ok-asked g.N.Analysis.codes g.N.Analysis.meaning g.met.N.Analysis.is_merge g.N.Analysis.may_ask c.add_and_modify.result g.N.Analysis.modifies (MakesForNode (g.L.LanguageChildren.form c.args.node)) c.args.self.now c.add_and_modify.new.self c.add_and_modify.ensures.adds
@@ -53,13 +53,13 @@ returns-then-modifies-clause-extends g c = ok-extends g.N.Analysis.codes g.N.Ana
 
 pub returns-clause-modified : goal.returns-clause-modified
 returns-clause-modified g c =
-    let e = c.add_quietly-answer.ensures in
-    ok-alone g.N.Analysis.codes g.N.Analysis.meaning g.met.N.Analysis.is_merge g.N.Analysis.may_ask c.add_quietly-answer.result g.N.Analysis.modifies (sym c.modifies.ensures ∙ c.if-modifies.false) (MakesForNode (g.L.LanguageChildren.form c.args.node)) c.args.self.now c.add_quietly-answer.new.self
-    (ok-adds g.N.Analysis.codes g.N.Analysis.meaning g.met.N.Analysis.is_merge g.N.Analysis.may_ask c.add_quietly-answer.result (MakesForNode (g.L.LanguageChildren.form c.args.node)) c.args.self.now c.add_quietly-answer.new.self c.is_failed.ensures.rests e.fails.0 e.extends e.adds e.more e.carries (ok-node c.add_quietly-answer.result (g.L.LanguageChildren.form c.args.node) c.args.self.now c.add_quietly-answer.new.self e.kept e.made))
+    let e = c.add_quietly.ensures in
+    ok-alone g.N.Analysis.codes g.N.Analysis.meaning g.met.N.Analysis.is_merge g.N.Analysis.may_ask c.add_quietly.result g.N.Analysis.modifies (sym c.modifies.ensures ∙ c.if-modifies.false) (MakesForNode (g.L.LanguageChildren.form c.args.node)) c.args.self.now c.add_quietly.new.self
+    (ok-adds g.N.Analysis.codes g.N.Analysis.meaning g.met.N.Analysis.is_merge g.N.Analysis.may_ask c.add_quietly.result (MakesForNode (g.L.LanguageChildren.form c.args.node)) c.args.self.now c.add_quietly.new.self e.rests e.fails.0 e.extends e.adds e.more e.carries (ok-node c.add_quietly.result (g.L.LanguageChildren.form c.args.node) c.args.self.now c.add_quietly.new.self e.kept e.made))
 
 pub returns-clause-leaves : goal.returns-clause-leaves
 returns-clause-leaves g c =
-    let e = c.add_quietly-answer.ensures in
-    ok-asked g.N.Analysis.codes g.N.Analysis.meaning g.met.N.Analysis.is_merge g.N.Analysis.may_ask c.add_quietly-answer.result g.N.Analysis.modifies (MakesForNode (g.L.LanguageChildren.form c.args.node)) c.args.self.now c.add_quietly-answer.new.self
-    (ok-alone g.N.Analysis.codes g.N.Analysis.meaning g.met.N.Analysis.is_merge g.N.Analysis.may_ask c.add_quietly-answer.result g.N.Analysis.modifies (sym c.modifies.ensures ∙ c.if-modifies.false) (MakesForNode (g.L.LanguageChildren.form c.args.node)) c.args.self.now c.add_quietly-answer.new.self
-    (ok-adds g.N.Analysis.codes g.N.Analysis.meaning g.met.N.Analysis.is_merge g.N.Analysis.may_ask c.add_quietly-answer.result (MakesForNode (g.L.LanguageChildren.form c.args.node)) c.args.self.now c.add_quietly-answer.new.self c.is_failed.ensures.rests e.fails.0 e.extends e.adds e.more e.carries (ok-node c.add_quietly-answer.result (g.L.LanguageChildren.form c.args.node) c.args.self.now c.add_quietly-answer.new.self e.kept e.made)))
+    let e = c.add_quietly.ensures in
+    ok-asked g.N.Analysis.codes g.N.Analysis.meaning g.met.N.Analysis.is_merge g.N.Analysis.may_ask c.add_quietly.result g.N.Analysis.modifies (MakesForNode (g.L.LanguageChildren.form c.args.node)) c.args.self.now c.add_quietly.new.self
+    (ok-alone g.N.Analysis.codes g.N.Analysis.meaning g.met.N.Analysis.is_merge g.N.Analysis.may_ask c.add_quietly.result g.N.Analysis.modifies (sym c.modifies.ensures ∙ c.if-modifies.false) (MakesForNode (g.L.LanguageChildren.form c.args.node)) c.args.self.now c.add_quietly.new.self
+    (ok-adds g.N.Analysis.codes g.N.Analysis.meaning g.met.N.Analysis.is_merge g.N.Analysis.may_ask c.add_quietly.result (MakesForNode (g.L.LanguageChildren.form c.args.node)) c.args.self.now c.add_quietly.new.self e.rests e.fails.0 e.extends e.adds e.more e.carries (ok-node c.add_quietly.result (g.L.LanguageChildren.form c.args.node) c.args.self.now c.add_quietly.new.self e.kept e.made)))

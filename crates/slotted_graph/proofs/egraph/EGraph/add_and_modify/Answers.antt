@@ -8,15 +8,15 @@ use Rattle.slotted_graph.proofs.Saying.{graph-kept}
 use Rattle.slotted_graph.proofs.Writing.{adds-more, node-later, none-pending, none-waits, ok-adds, ok-again, ok-node, was-well}
 use Rattle.slotted_graph.proofs.egraph.EGraph.add_and_modify.Goals as goal
 
-pub add_quietly-again-requires : goal.add_quietly-again-requires
-add_quietly-again-requires g c =
+pub add_quietly-requires-2 : goal.add_quietly-requires-2
+add_quietly-requires-2 g c =
     let e = c.in_ok-id.ensures in
-    let first = adds-more g.N.Analysis.codes g.N.Analysis.meaning g.met.N.Analysis.is_merge g.N.Analysis.may_ask (MakesForNode (g.L.LanguageChildren.form c.args.node.now)) c.args.self.now c.add_quietly.new.self (graph-kept c.add_quietly.new.self c.is_failed.ensures.rests c.in_ok-id.ensures.fails.0) c.in_ok-id.ensures.extends c.in_ok-id.ensures.adds c.add_quietly.ensures.more c.in_ok-id.ensures.carries (record { kept = c.in_ok-id.ensures.kept; id = to_applied c.in_ok-id.id; made = c.in_ok-id.ensures.made }) in
+    let first = adds-more g.N.Analysis.codes g.N.Analysis.meaning g.met.N.Analysis.is_merge g.N.Analysis.may_ask (MakesForNode (g.L.LanguageChildren.form c.args.node.now)) c.args.self.now c.add_quietly.new.self (graph-kept c.add_quietly.new.self c.add_quietly.ensures.rests c.in_ok-id.ensures.fails.0) c.in_ok-id.ensures.extends c.in_ok-id.ensures.adds c.add_quietly.ensures.more c.in_ok-id.ensures.carries (record { kept = c.in_ok-id.ensures.kept; id = to_applied c.in_ok-id.id; made = c.in_ok-id.ensures.made }) in
     inr (node-later c.args.self.now c.modify.new.self (g.L.LanguageChildren.form c.args.node.now) (extends-then c.args.self.now c.add_quietly.new.self c.modify.new.self first.extends c.in_ok-modify.ensures.modified.leaves.extends) (given (was-well c.args.self.now c.add_quietly.new.self c.add_quietly.ensures.stays e.fails.0) c.requires))
 
 pub returns-then-pending_classes-eq0-clause-adds : goal.returns-then-pending_classes-eq0-clause-adds
 returns-then-pending_classes-eq0-clause-adds g c =
-    let first = adds-more g.N.Analysis.codes g.N.Analysis.meaning g.met.N.Analysis.is_merge g.N.Analysis.may_ask (MakesForNode (g.L.LanguageChildren.form c.args.node.now)) c.args.self.now c.add_quietly.new.self (graph-kept c.add_quietly.new.self c.is_failed.ensures.rests c.in_ok-id.ensures.fails.0) c.in_ok-id.ensures.extends c.in_ok-id.ensures.adds c.add_quietly.ensures.more c.in_ok-id.ensures.carries (record { kept = c.in_ok-id.ensures.kept; id = to_applied c.in_ok-id.id; made = c.in_ok-id.ensures.made }) in
+    let first = adds-more g.N.Analysis.codes g.N.Analysis.meaning g.met.N.Analysis.is_merge g.N.Analysis.may_ask (MakesForNode (g.L.LanguageChildren.form c.args.node.now)) c.args.self.now c.add_quietly.new.self (graph-kept c.add_quietly.new.self c.add_quietly.ensures.rests c.in_ok-id.ensures.fails.0) c.in_ok-id.ensures.extends c.in_ok-id.ensures.adds c.add_quietly.ensures.more c.in_ok-id.ensures.carries (record { kept = c.in_ok-id.ensures.kept; id = to_applied c.in_ok-id.id; made = c.in_ok-id.ensures.made }) in
     record {
       added = c.add_quietly.new.self;
       adds = first;
@@ -28,7 +28,7 @@ returns-then-pending_classes-eq0-clause-adds g c =
 
 pub returns-clause-adds : goal.returns-clause-adds
 returns-clause-adds g c =
-    let first = adds-more g.N.Analysis.codes g.N.Analysis.meaning g.met.N.Analysis.is_merge g.N.Analysis.may_ask (MakesForNode (g.L.LanguageChildren.form c.args.node.now)) c.args.self.now c.add_quietly.new.self (graph-kept c.add_quietly.new.self c.is_failed.ensures.rests c.in_ok-id.ensures.fails.0) c.in_ok-id.ensures.extends c.in_ok-id.ensures.adds c.add_quietly.ensures.more c.in_ok-id.ensures.carries (record { kept = c.in_ok-id.ensures.kept; id = to_applied c.in_ok-id.id; made = c.in_ok-id.ensures.made }) in
-    let a = c.add_quietly-again.ensures in
-    ok-again g.N.Analysis.codes g.N.Analysis.meaning g.met.N.Analysis.is_merge g.N.Analysis.may_ask c.add_quietly-again.result g.N.Analysis.modifies (MakesForNode (g.L.LanguageChildren.form c.args.node.now)) c.args.self.now c.add_quietly.new.self c.modify.new.self c.add_quietly-again.new.self c.in_ok-modify.field-0 first c.in_ok-modify.ensures.modified
-    (ok-adds g.N.Analysis.codes g.N.Analysis.meaning g.met.N.Analysis.is_merge g.N.Analysis.may_ask c.add_quietly-again.result (MakesForNode (g.L.LanguageChildren.form c.args.node.now)) c.modify.new.self c.add_quietly-again.new.self c.is_failed-2.ensures.rests a.fails.0 a.extends a.adds a.more a.carries (ok-node c.add_quietly-again.result (g.L.LanguageChildren.form c.args.node.now) c.modify.new.self c.add_quietly-again.new.self a.kept a.made))
+    let first = adds-more g.N.Analysis.codes g.N.Analysis.meaning g.met.N.Analysis.is_merge g.N.Analysis.may_ask (MakesForNode (g.L.LanguageChildren.form c.args.node.now)) c.args.self.now c.add_quietly.new.self (graph-kept c.add_quietly.new.self c.add_quietly.ensures.rests c.in_ok-id.ensures.fails.0) c.in_ok-id.ensures.extends c.in_ok-id.ensures.adds c.add_quietly.ensures.more c.in_ok-id.ensures.carries (record { kept = c.in_ok-id.ensures.kept; id = to_applied c.in_ok-id.id; made = c.in_ok-id.ensures.made }) in
+    let a = c.add_quietly-2.ensures in
+    ok-again g.N.Analysis.codes g.N.Analysis.meaning g.met.N.Analysis.is_merge g.N.Analysis.may_ask c.add_quietly-2.result g.N.Analysis.modifies (MakesForNode (g.L.LanguageChildren.form c.args.node.now)) c.args.self.now c.add_quietly.new.self c.modify.new.self c.add_quietly-2.new.self c.in_ok-modify.field-0 first c.in_ok-modify.ensures.modified
+    (ok-adds g.N.Analysis.codes g.N.Analysis.meaning g.met.N.Analysis.is_merge g.N.Analysis.may_ask c.add_quietly-2.result (MakesForNode (g.L.LanguageChildren.form c.args.node.now)) c.modify.new.self c.add_quietly-2.new.self c.add_quietly-2.ensures.rests a.fails.0 a.extends a.adds a.more a.carries (ok-node c.add_quietly-2.result (g.L.LanguageChildren.form c.args.node.now) c.modify.new.self c.add_quietly-2.new.self a.kept a.made))

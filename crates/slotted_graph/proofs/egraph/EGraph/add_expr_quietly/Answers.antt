@@ -14,7 +14,7 @@ use Rattle.slotted_operations.proofs.Additions.TermNodes.{reached}
 use Rattle.slotted_operations.proofs.Additions.GraphsWithTerms.{term-answers, term-equal, term-filed, term-found, term-id, term-kept, term-lacks, term-nodes, term-reached, term-takes}
 use Rattle.slotted_graph.proofs.Indexes.{no-index}
 use Rattle.slotted_graph.proofs.Analysed.{carries-data, kept-part}
-use Rattle.slotted_graph.proofs.Insides.{data-inside, inside-of, told-by}
+use Rattle.slotted_graph.proofs.Insides.{data-inside, inside-of, told-by, rebuilt-by}
 use Rattle.slotted_graph.proofs.egraph.EGraph.add_expr_quietly.Goals as goal
 
 pub add_expr-requires-clause-fresh_slots : goal.add_expr-requires-clause-fresh_slots
@@ -183,3 +183,15 @@ returns-clause-carries g c =
     let inside = inside-of t k r c.self.view_is c.if-self.false c.self.invariant in
     let rested = data-inside g.N.Analysis.meaning c.self.inside.analysis c.if-self.false c.self.invariant in
     carries-data g.N.Analysis.codes g.N.Analysis.meaning c.self.inside.analysis c.self.inside.rounds k r c.self.inside.data c.args.self.now inside.image (sym (ap (λ (x : Graph). x.part) c.self.view_is)) rested inside.filed c.add_expr.new.store c.add_expr.new.nodes c.add_expr.new.data _ refl refl (reached c.args.term.now t k r inside.good inside.rests inside.fresh (term_nodes c.args.term.now) c.add_expr.new.table c.add_expr.new.store c.add_expr.new.nodes c.in_ok-answer.ensures.ok.nodes).goes_on c.in_ok-answer.ensures.carried
+
+pub returns-clause-rests : goal.returns-clause-rests
+returns-clause-rests g c =
+    let h = c.args.self.now in
+    let k = c.self.inside.store in
+    let r = c.self.inside.nodes in
+    let t = c.self.inside.table in
+    let inside = inside-of t k r c.self.view_is c.if-self.false c.self.invariant in
+    let w = c.args.term.now in
+    let is = told-by t k r c.self.view_is c.if-self.false c.self.invariant in
+    let p = term-reached _ w t k r inside.good inside.rests inside.fresh h is (part_by g.N.Analysis.codes c.self.inside.analysis c.self.inside.rounds c.add_expr.new.data) c.add_expr.new.table c.add_expr.new.store c.add_expr.new.nodes (to_applied c.in_ok-answer.answer) c.in_ok-answer.ensures.ok in
+    inr (rebuilt-by c.add_expr.new.table c.add_expr.new.store c.add_expr.new.nodes _ p.good p.fresh_slots p.rests)

@@ -13,7 +13,7 @@ use Rattle.slotted_operations.proofs.LookUps.States.{looked_up-is}
 use Rattle.slotted_operations.proofs.Ids.ValidIds.{findable-children}
 use Rattle.slotted_operations.proofs.Additions.GraphsWithNodes.{added-answers, added-equal, added-found, added-id, added-kept, added-made}
 use Rattle.slotted_graph.proofs.Analysed.{carries-data, kept-part}
-use Rattle.slotted_graph.proofs.Insides.{data-inside, given, inside-of}
+use Rattle.slotted_graph.proofs.Insides.{data-inside, given, inside-of, rebuilt-by}
 use Rattle.slotted_graph.proofs.egraph.EGraph.add_quietly.Goals as goal
 
 pub add-requires-clause-fresh_slots : goal.add-requires-clause-fresh_slots
@@ -149,3 +149,8 @@ returns-clause-carries g c =
     let inside = inside-of t k r c.self.view_is c.if-self.false c.self.invariant in
     let rested = data-inside g.N.Analysis.meaning c.self.inside.analysis c.if-self.false c.self.invariant in
     carries-data g.N.Analysis.codes g.N.Analysis.meaning c.self.inside.analysis c.self.inside.rounds k r c.self.inside.data c.args.self.now inside.image (sym (ap (λ (x : Graph). x.part) c.self.view_is)) rested inside.filed c.add.new.store c.add.new.nodes c.add.new.data _ refl refl c.in_ok-id.ensures.ok.goes_on c.in_ok-id.ensures.carried
+
+pub returns-clause-rests : goal.returns-clause-rests
+returns-clause-rests g c =
+    let ok = c.in_ok-id.ensures.ok in
+    inr (rebuilt-by c.add.new.table c.add.new.store c.add.new.nodes _ ok.good ok.fresh_slots ok.rests)

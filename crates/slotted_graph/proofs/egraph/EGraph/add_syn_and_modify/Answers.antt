@@ -12,7 +12,7 @@ returns-clause-valid g c = full-extends c.add_syn_quietly.new.self c.modify.new.
 pub returns-clause-adds : goal.returns-clause-adds
 returns-clause-adds g c = record {
   added = c.add_syn_quietly.new.self;
-  adds = adds-more g.N.Analysis.codes g.N.Analysis.meaning g.met.N.Analysis.is_merge g.N.Analysis.may_ask (MakesForSynNode (g.L.LanguageChildren.form c.args.node.now)) c.args.self.now c.add_syn_quietly.new.self (graph-kept c.add_syn_quietly.new.self c.is_failed.ensures.rests c.in_ok-id.ensures.fails.0) c.in_ok-id.ensures.extends c.in_ok-id.ensures.adds c.add_syn_quietly.ensures.more c.in_ok-id.ensures.carries (to_applied c.in_ok-id.id, c.in_ok-id.ensures.syn);
+  adds = adds-more g.N.Analysis.codes g.N.Analysis.meaning g.met.N.Analysis.is_merge g.N.Analysis.may_ask (MakesForSynNode (g.L.LanguageChildren.form c.args.node.now)) c.args.self.now c.add_syn_quietly.new.self (graph-kept c.add_syn_quietly.new.self c.add_syn_quietly.ensures.rests c.in_ok-id.ensures.fails.0) c.in_ok-id.ensures.extends c.in_ok-id.ensures.adds c.add_syn_quietly.ensures.more c.in_ok-id.ensures.carries (to_applied c.in_ok-id.id, c.in_ok-id.ensures.syn);
   modified = c.modify.new.self;
   asked = c.in_ok-modify.field-0;
   rounds = c.in_ok-modify.ensures.modified;

@@ -13,7 +13,7 @@ returns-clause-valid g c = full-extends c.add_syn_expr_quietly.new.self c.modify
 pub returns-clause-adds : goal.returns-clause-adds
 returns-clause-adds g c = record {
   added = c.add_syn_expr_quietly.new.self;
-  adds = adds-more g.N.Analysis.codes g.N.Analysis.meaning g.met.N.Analysis.is_merge g.N.Analysis.may_ask (MakesForSynTerm c.args.term.now) c.args.self.now c.add_syn_expr_quietly.new.self (graph-kept c.add_syn_expr_quietly.new.self c.is_failed.ensures.rests c.in_ok-id.ensures.fails.0) c.in_ok-id.ensures.extends c.in_ok-id.ensures.adds c.add_syn_expr_quietly.ensures.more c.in_ok-id.ensures.carries (c.in_ok-id.ensures.kept, c.in_ok-id.ensures.filed);
+  adds = adds-more g.N.Analysis.codes g.N.Analysis.meaning g.met.N.Analysis.is_merge g.N.Analysis.may_ask (MakesForSynTerm c.args.term.now) c.args.self.now c.add_syn_expr_quietly.new.self (graph-kept c.add_syn_expr_quietly.new.self c.add_syn_expr_quietly.ensures.rests c.in_ok-id.ensures.fails.0) c.in_ok-id.ensures.extends c.in_ok-id.ensures.adds c.add_syn_expr_quietly.ensures.more c.in_ok-id.ensures.carries (c.in_ok-id.ensures.kept, c.in_ok-id.ensures.filed);
   modified = c.modify.new.self;
   asked = c.in_ok-modify.field-0;
   rounds = c.in_ok-modify.ensures.modified;

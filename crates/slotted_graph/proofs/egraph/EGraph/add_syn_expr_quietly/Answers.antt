@@ -14,7 +14,7 @@ use Rattle.slotted_classes.specs.Kept.{nodes_of}
 use Rattle.slotted_proofs.specs.Equations.{to_applied}
 use Rattle.slotted_theory.specs.Nameless.{nameless}
 use Rattle.slotted_operations.proofs.LookUps.FoundNames.{term_known}
-use Rattle.slotted_graph.proofs.Insides.{data-inside, inside-of}
+use Rattle.slotted_graph.proofs.Insides.{data-inside, inside-of, rebuilt-by}
 use Rattle.slotted_graph.proofs.Analysed.{carries-data, kept-part}
 use Rattle.slotted_graph.proofs.egraph.EGraph.add_syn_expr_quietly.Goals as goal
 
@@ -85,3 +85,8 @@ returns-clause-carries g c =
 pub returns-in_err-answer-clause-full : goal.returns-in_err-answer-clause-full
 returns-in_err-answer-clause-full g c e =
     subst (λ (x : Graph). CanRunOutForTerm x.image c.args.term.now x.table c.add_syn_expr.new.table) c.self.view_is (c.in_err-answer.ensures.full (search rules))
+
+pub returns-clause-rests : goal.returns-clause-rests
+returns-clause-rests g c =
+    let ok = c.in_ok-answer.ensures.ok in
+    inr (rebuilt-by c.add_syn_expr.new.table c.add_syn_expr.new.store c.add_syn_expr.new.nodes _ ok.good ok.fresh_slots ok.rests)

@@ -11,7 +11,7 @@ use Rattle.slotted_operations.specs.Graph.{Graph}
 use Rattle.slotted_operations.proofs.Ids.ValidIds.{findable-children}
 use Rattle.slotted_operations.proofs.Additions.GraphsWithNodes.{syn-adds, syn-valid}
 use Rattle.slotted_graph.proofs.Analysed.{carries-data, kept-part}
-use Rattle.slotted_graph.proofs.Insides.{data-inside, given, inside-of}
+use Rattle.slotted_graph.proofs.Insides.{data-inside, given, inside-of, rebuilt-by}
 use Rattle.slotted_graph.proofs.egraph.EGraph.add_syn_quietly.Goals as goal
 
 pub add_filled-requires-clause-fresh_slots : goal.add_filled-requires-clause-fresh_slots
@@ -80,3 +80,8 @@ returns-clause-carries g c =
 pub returns-in_err-made-clause-full : goal.returns-in_err-made-clause-full
 returns-in_err-made-clause-full g c e =
     subst (λ (x : Graph). RunsOutForFilled x.image (g.L.LanguageChildren.form c.args.node.now) x.table c.add_filled.new.table) c.self.view_is (c.in_err-made.ensures.full (search rules))
+
+pub returns-clause-rests : goal.returns-clause-rests
+returns-clause-rests g c =
+    let ok = c.in_ok-made.ensures.ok.adds in
+    inr (rebuilt-by c.add_filled.new.table c.add_filled.new.store c.add_filled.new.nodes _ ok.good ok.fresh_slots ok.rests)

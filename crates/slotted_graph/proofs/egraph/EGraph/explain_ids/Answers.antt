@@ -10,7 +10,7 @@ use Rattle.slotted_operations.proofs.Unions.Explanations.{explains-ids}
 use Rattle.slotted_operations.proofs.Unions.WholeUnions.{large-class_of}
 use Rattle.slotted_graph.proofs.Analysed.{data-proved}
 use Rattle.slotted_graph.proofs.Indexes.{no-index}
-use Rattle.slotted_graph.proofs.Insides.{data-inside, given, inside-of}
+use Rattle.slotted_graph.proofs.Insides.{data-inside, given, inside-of, rebuilt-by}
 use Rattle.slotted_graph.proofs.egraph.EGraph.explain_ids.Goals as goal
 use Rattle.slotted_graph.proofs.egraph.EGraph.explain_ids.Goals.{in-Some, in-None}
 
@@ -85,3 +85,16 @@ returns-clause-adds g c =
     let right = subst (λ (x : Image). IsFull x.canonical b) (sym inside.image) (given inside.failed c.requires.right).full in
     let ids = explains-ids k c.self.inside.nodes inside.good inside.rests c.self.inside.table inside.fresh a b left right c.explain_ids.new.store c.in_ok-answer.answer c.in_ok-answer.ensures.ok in
     inr (subst (λ (x : Image). AddsTerms x (image_of c.explain_ids.new.store)) inside.image ids.adds)
+
+pub returns-clause-rests : goal.returns-clause-rests
+returns-clause-rests g c =
+    let k = c.self.inside.store in
+    let t = c.self.inside.table in
+    let r = c.self.inside.nodes in
+    let inside = inside-of t k r c.self.view_is c.if-self.false c.self.invariant in
+    let a = to_applied c.args.a.now in
+    let b = to_applied c.args.b.now in
+    let left = subst (λ (x : Image). IsFull x.canonical a) (sym inside.image) (given inside.failed c.requires.left).full in
+    let right = subst (λ (x : Image). IsFull x.canonical b) (sym inside.image) (given inside.failed c.requires.right).full in
+    let ids = explains-ids k r inside.good inside.rests t inside.fresh a b left right c.explain_ids.new.store c.in_ok-answer.answer c.in_ok-answer.ensures.ok in
+    inr (rebuilt-by t c.explain_ids.new.store r _ ids.good ids.fresh_slots ids.rests)

@@ -4,7 +4,7 @@ use Rattle.slotted_operations.specs.Explaining.{Answers, RunsOutForTerms}
 use Rattle.slotted_operations.specs.Good.{image_of}
 use Rattle.slotted_operations.specs.Graph.{Graph}
 use Rattle.slotted_graph.proofs.Analysed.{carries-data}
-use Rattle.slotted_graph.proofs.Insides.{data-inside, inside-of}
+use Rattle.slotted_graph.proofs.Insides.{data-inside, inside-of, rebuilt-by}
 use Rattle.slotted_graph.proofs.egraph.EGraph.explain_quietly.Goals as goal
 use Rattle.slotted_graph.proofs.egraph.EGraph.explain_quietly.Goals.{in-Some, in-None}
 
@@ -36,3 +36,8 @@ returns-clause-carries g c =
     let inside = inside-of t k r c.self.view_is c.if-self.false c.self.invariant in
     let rested = data-inside g.N.Analysis.meaning c.self.inside.analysis c.if-self.false c.self.invariant in
     inr (carries-data g.N.Analysis.codes g.N.Analysis.meaning c.self.inside.analysis c.self.inside.rounds k r c.self.inside.data c.args.self.now inside.image (sym (ap (λ (x : Graph). x.part) c.self.view_is)) rested inside.filed c.explain.new.store c.explain.new.nodes c.explain.new.data _ refl refl c.in_ok-answer.ensures.ok.goes_on c.in_ok-answer.ensures.carried)
+
+pub returns-clause-rests : goal.returns-clause-rests
+returns-clause-rests g c =
+    let ok = c.in_ok-answer.ensures.ok in
+    inr (rebuilt-by c.explain.new.table c.explain.new.store c.explain.new.nodes _ ok.good ok.fresh_slots ok.rests)

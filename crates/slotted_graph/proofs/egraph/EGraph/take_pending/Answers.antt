@@ -5,7 +5,7 @@ use Rattle.slotted_data.specs.Held.{Held}
 use Rattle.slotted_data.proofs.Resting.{rests-taken}
 use Rattle.slotted_operations.specs.Graph.{Graph}
 use Rattle.slotted_graph.proofs.Analysed.{takes-pending}
-use Rattle.slotted_graph.proofs.Insides.{data-inside, given, inside-of}
+use Rattle.slotted_graph.proofs.Insides.{data-inside, given, inside-of, rebuilt-by}
 use Rattle.slotted_graph.proofs.egraph.EGraph.take_pending.Goals as goal
 
 pub invariant_of-self-2 : goal.invariant_of-self-2
@@ -25,3 +25,8 @@ returns-clause-taken g c =
     let inside = inside-of c.self.inside.table k r c.self.view_is c.if-self.false c.self.invariant in
     takes-pending g.N.Analysis.codes g.N.Analysis.meaning n c.self.inside.rounds k r inside.good c.self.inside.data c.take_pending.new.data c.args.self.now _ inside.image (sym (ap (λ (x : Graph). x.part) c.self.view_is)) refl
     (data-inside g.N.Analysis.meaning n c.if-self.false c.self.invariant) c.in_ok-taken.ensures.left _ _ c.in_ok-taken.ensures.taken (c.in_ok-ids.ensures.ok ∙ c.deref.ensures.value)
+
+pub returns-clause-rests : goal.returns-clause-rests
+returns-clause-rests g c =
+    let inside = inside-of c.self.inside.table c.self.inside.store c.self.inside.nodes c.self.view_is c.if-self.false c.self.invariant in
+    inr (rebuilt-by c.self.inside.table c.self.inside.store c.self.inside.nodes _ inside.good inside.fresh inside.rests)

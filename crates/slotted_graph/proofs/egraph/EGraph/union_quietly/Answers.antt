@@ -12,7 +12,7 @@ use Rattle.slotted_operations.proofs.Additions.NewClasses.{grown-fresh}
 use Rattle.slotted_operations.proofs.Ids.ValidIds.{of-valid}
 use Rattle.slotted_graph.proofs.Measured.{never-rises}
 use Rattle.slotted_graph.proofs.Indexes.{no-index}
-use Rattle.slotted_graph.proofs.Insides.{data-inside, given, inside-of}
+use Rattle.slotted_graph.proofs.Insides.{data-inside, given, inside-of, rebuilt-by}
 use Rattle.slotted_graph.proofs.Analysed.{carries-data}
 use Rattle.slotted_graph.proofs.egraph.EGraph.union_quietly.Goals as goal
 
@@ -68,3 +68,9 @@ returns-clause-carries g c =
     let inside = inside-of t k r c.self.view_is c.if-self.false c.self.invariant in
     let rested = data-inside g.N.Analysis.meaning c.self.inside.analysis c.if-self.false c.self.invariant in
     carries-data g.N.Analysis.codes g.N.Analysis.meaning c.self.inside.analysis c.self.inside.rounds k r c.self.inside.data c.args.self.now inside.image (sym (ap (λ (x : Graph). x.part) c.self.view_is)) rested inside.filed c.union.new.store c.union.new.nodes c.union.new.data _ refl refl c.in_ok-answer.ensures.ok.goes_on c.in_ok-answer.ensures.carried
+
+pub returns-clause-rests : goal.returns-clause-rests
+returns-clause-rests g c =
+    let inside = inside-of c.self.inside.table c.self.inside.store c.self.inside.nodes c.self.view_is c.if-self.false c.self.invariant in
+    let ok = c.in_ok-answer.ensures.ok in
+    inr (rebuilt-by c.self.inside.table c.union.new.store c.union.new.nodes _ ok.good (grown-fresh c.self.inside.table c.self.inside.store c.union.new.store ok.nodes inside.fresh) ok.rests)

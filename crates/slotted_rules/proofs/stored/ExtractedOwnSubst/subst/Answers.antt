@@ -48,7 +48,7 @@ replaced-requires-clause-graph g c =
     let e = c.least_term.new.self in
     let f = c.add_syn_expr_quietly.new.self in
     let well : IsTrue f.failed → ⊥ = λ failed. false≢true (c.in_ok-body.ensures.fails.0 failed) in
-    let builds = added-builds g0 e f c.requires.graph c.least_term.ensures.takes c.in_ok-body.ensures.extends c.in_ok-body.ensures.adds c.add_syn_expr_quietly.ensures.more c.is_failed.ensures.rests well in
+    let builds = added-builds g0 e f c.requires.graph c.least_term.ensures.takes c.in_ok-body.ensures.extends c.in_ok-body.ensures.adds c.add_syn_expr_quietly.ensures.more c.add_syn_expr_quietly.ensures.rests well in
     builds.grows.graph
 
 pub replaced-requires-clause-body : goal.replaced-requires-clause-body
@@ -61,7 +61,7 @@ replaced-requires-clause-part g c =
     let e = c.least_term.new.self in
     let f = c.add_syn_expr_quietly.new.self in
     let well : IsTrue f.failed → ⊥ = λ failed. false≢true (c.in_ok-body.ensures.fails.0 failed) in
-    let builds = added-builds g0 e f c.requires.graph c.least_term.ensures.takes c.in_ok-body.ensures.extends c.in_ok-body.ensures.adds c.add_syn_expr_quietly.ensures.more c.is_failed.ensures.rests well in
+    let builds = added-builds g0 e f c.requires.graph c.least_term.ensures.takes c.in_ok-body.ensures.extends c.in_ok-body.ensures.adds c.add_syn_expr_quietly.ensures.more c.add_syn_expr_quietly.ensures.rests well in
     full-builds g0 f (to_applied c.args.x) builds c.requires.part
 
 pub replaced-requires-clause-value : goal.replaced-requires-clause-value
@@ -70,7 +70,7 @@ replaced-requires-clause-value g c =
     let e = c.least_term.new.self in
     let f = c.add_syn_expr_quietly.new.self in
     let well : IsTrue f.failed → ⊥ = λ failed. false≢true (c.in_ok-body.ensures.fails.0 failed) in
-    let builds = added-builds g0 e f c.requires.graph c.least_term.ensures.takes c.in_ok-body.ensures.extends c.in_ok-body.ensures.adds c.add_syn_expr_quietly.ensures.more c.is_failed.ensures.rests well in
+    let builds = added-builds g0 e f c.requires.graph c.least_term.ensures.takes c.in_ok-body.ensures.extends c.in_ok-body.ensures.adds c.add_syn_expr_quietly.ensures.more c.add_syn_expr_quietly.ensures.rests well in
     full-builds g0 f (to_applied c.args.t) builds c.requires.value
 
 pub returns-clause-valid : goal.returns-clause-valid
@@ -83,9 +83,9 @@ returns-clause-stands g c =
     let e = c.least_term.new.self in
     let f = c.add_syn_expr_quietly.new.self in
     let well : IsTrue f.failed → ⊥ = λ failed. false≢true (c.in_ok-body.ensures.fails.0 failed) in
-    let builds = added-builds g0 e f c.requires.graph c.least_term.ensures.takes c.in_ok-body.ensures.extends c.in_ok-body.ensures.adds c.add_syn_expr_quietly.ensures.more c.is_failed.ensures.rests well in
+    let builds = added-builds g0 e f c.requires.graph c.least_term.ensures.takes c.in_ok-body.ensures.extends c.in_ok-body.ensures.adds c.add_syn_expr_quietly.ensures.more c.add_syn_expr_quietly.ensures.rests well in
     ok-mapped c.replaced.result c.replaced.ensures.ok (λ a r k.
-    extracted-answers g0 e f c.requires.graph c.least_term.ensures.takes c.in_ok-body.ensures.extends c.in_ok-body.ensures.adds c.add_syn_expr_quietly.ensures.more c.is_failed.ensures.rests well
+    extracted-answers g0 e f c.requires.graph c.least_term.ensures.takes c.in_ok-body.ensures.extends c.in_ok-body.ensures.adds c.add_syn_expr_quietly.ensures.more c.add_syn_expr_quietly.ensures.rests well
     c.replaced.new.graph (to_applied c.args.b) (to_applied c.args.x) (to_applied c.args.t) (to_applied c.in_ok-body.body) (to_applied a) c.in_ok-term.term c.requires.body
     (c.in_ok-term.ensures.least (costs_by nat_cmp size_cost) c.in_ok-terms.ensures.least).0 c.in_ok-body.ensures.valid c.in_ok-body.ensures.term r)
 
@@ -95,7 +95,7 @@ returns-clause-extends g c =
     let e = c.least_term.new.self in
     let f = c.add_syn_expr_quietly.new.self in
     let well : IsTrue f.failed → ⊥ = λ failed. false≢true (c.in_ok-body.ensures.fails.0 failed) in
-    let builds = added-builds g0 e f c.requires.graph c.least_term.ensures.takes c.in_ok-body.ensures.extends c.in_ok-body.ensures.adds c.add_syn_expr_quietly.ensures.more c.is_failed.ensures.rests well in
+    let builds = added-builds g0 e f c.requires.graph c.least_term.ensures.takes c.in_ok-body.ensures.extends c.in_ok-body.ensures.adds c.add_syn_expr_quietly.ensures.more c.add_syn_expr_quietly.ensures.rests well in
     extends-from g0 f c.replaced.new.graph builds (replaced-extends f c.replaced.new.graph (to_applied c.args.x) (to_applied c.args.t) (to_applied c.in_ok-body.body) c.replaced.result c.replaced.ensures.ok c.replaced.ensures.err)
 
 pub returns-in_err-terms-clause-carries : goal.returns-in_err-terms-clause-carries
@@ -113,6 +113,6 @@ returns-clause-carries g c =
     let e = c.least_term.new.self in
     let f = c.add_syn_expr_quietly.new.self in
     let well : IsTrue f.failed → ⊥ = λ failed. false≢true (c.in_ok-body.ensures.fails.0 failed) in
-    let builds = added-builds g0 e f c.requires.graph c.least_term.ensures.takes c.in_ok-body.ensures.extends c.in_ok-body.ensures.adds c.add_syn_expr_quietly.ensures.more c.is_failed.ensures.rests well in
+    let builds = added-builds g0 e f c.requires.graph c.least_term.ensures.takes c.in_ok-body.ensures.extends c.in_ok-body.ensures.adds c.add_syn_expr_quietly.ensures.more c.add_syn_expr_quietly.ensures.rests well in
     let kept = carries-then g.N.Analysis.codes g.N.Analysis.meaning g.met.N.Analysis.is_merge g0 e f (extends-takes g0 e c.least_term.ensures.takes) (carries-takes g.N.Analysis.codes g.N.Analysis.meaning g.met.N.Analysis.is_merge g0 e c.least_term.ensures.takes) (carried-along g.N.Analysis.codes g.N.Analysis.meaning e f c.in_ok-body.ensures.carries) in
     later-carries g.N.Analysis.codes g.N.Analysis.meaning g.met.N.Analysis.is_merge g0 f c.replaced.new.graph builds.grows.extends kept c.replaced.ensures.carries

@@ -12,7 +12,7 @@ use Rattle.slotted_proofs.specs.StepClaims.{IsOfFull}
 use Rattle.slotted_operations.proofs.Graphs.ProofSteps.{both_ok, Checked, congruent_checked, congruent_refused, kept_good, says_refused, says_fits, says_accepted, says_derivable, says_leaves}
 use Rattle.slotted_graph.proofs.Analysed.{data-checked}
 use Rattle.slotted_graph.proofs.Indexes.{no-index}
-use Rattle.slotted_graph.proofs.Insides.{data-inside}
+use Rattle.slotted_graph.proofs.Insides.{data-inside, rebuilt-by}
 use Rattle.slotted_graph.proofs.egraph.steps.CongruenceProofCheck.check.Goals as goal
 
 pub invariant_of-graph : goal.invariant_of-graph
@@ -104,3 +104,19 @@ returns-clause-leaves g c =
     let ok = subst (λ qs. IfOk r (EntersIn k l (by_step (statement_of e) (congruent qs)))) c.in_ok-copy.ensures.ok c.check_congruent.ensures.ok in
     let checked = both_ok r (λ p. IsOfFull (nodes_of k) e × IsCongruentIn k e ps) (EntersIn k l (by_step (statement_of e) (congruent ps))) (Checked t k l e (congruent ps)) (λ p f x. congruent_checked t k l e ps p h.0 f x) fits ok in
     says_leaves r c.graph.inside.failed t c.graph.inside.nodes k l e (congruent ps) _ c.args.graph.now c.graph.view_is checked
+
+pub returns-clause-rests : goal.returns-clause-rests
+returns-clause-rests g c =
+    let k = c.graph.inside.store in
+    let e = c.args.equation.now in
+    let t = c.graph.inside.table in
+    let r = c.check_congruent.result in
+    let l = c.check_congruent.new.store in
+    let ps = c.args.self.now.0.items in
+    let rows = c.graph.inside.nodes in
+    let h : Good k × HasFreshSlots t k × RestsWith k rows = elim c.graph.invariant [ inl h ↦ absurd (false≢true (sym c.if-graph.false ∙ h)) | inr h ↦ (h.0, h.1, h.2) ] in
+    let fits = subst (λ qs. IfOk r (λ _. IsOfFull (nodes_of k) e × IsCongruentIn k e qs)) c.in_ok-copy.ensures.ok c.check_congruent.ensures.fits in
+    let ok = subst (λ qs. IfOk r (EntersIn k l (by_step (statement_of e) (congruent qs)))) c.in_ok-copy.ensures.ok c.check_congruent.ensures.ok in
+    let checked = both_ok r (λ p. IsOfFull (nodes_of k) e × IsCongruentIn k e ps) (EntersIn k l (by_step (statement_of e) (congruent ps))) (Checked t k l e (congruent ps)) (λ p f x. congruent_checked t k l e ps p h.0 f x) fits ok in
+    let kept = kept_good r t k l rows e (congruent ps) h checked c.check_congruent.ensures.err in
+    inr (rebuilt-by t l rows _ kept.0 kept.1 kept.2)
