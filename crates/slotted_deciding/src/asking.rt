@@ -10,7 +10,7 @@ ghost use Rattle.slotted_graph.specs.Analysed.{LowersData};
 ghost use Rattle.slotted_deciding.specs.Steps.{CanRefuse, GoesTo, LeadsTo};
 
 use crate::deciding::decide;
-use crate::failing::failing;
+use crate::failing::fail_if_refused;
 use crate::is_equal_up_to_symmetries;
 use crate::proving::proof_between;
 use slotted_data::Analysis;
@@ -98,7 +98,7 @@ pub fn decided_eq<L: Language, N: Analysis<L>>(
         return Err(Error::Failed);
     }
     let outcome = judge(alloc, graph, a, b, limit);
-    failing(graph, outcome)
+    fail_if_refused(graph, outcome)
 }
 
 // The ids of two terms.
@@ -219,5 +219,5 @@ pub fn decided_explain<L: Language, N: Analysis<L>>(
         return Err(Error::Failed);
     }
     let outcome = explain_terms(alloc, graph, left, right, limit);
-    failing(graph, outcome)
+    fail_if_refused(graph, outcome)
 }

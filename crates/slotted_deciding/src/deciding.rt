@@ -6,7 +6,7 @@ ghost use Rattle.slotted_deciding.specs.Equality.{IsDecidedGraph};
 ghost use Rattle.slotted_graph.specs.Analysed.{LowersData};
 ghost use Rattle.slotted_deciding.specs.Steps.{CanRefuse, GoesTo, LeadsTo};
 
-use crate::failing::failing;
+use crate::failing::fail_if_refused;
 use crate::settling::{Missing, all_missing, missing_by_generators};
 use crate::uniting::unite_all;
 use slotted_data::Analysis;
@@ -97,5 +97,5 @@ pub fn decide<L: Language, N: Analysis<L>>(
         return Ok(true);
     }
     let outcome = settle(alloc, graph, limit);
-    failing(graph, outcome)
+    fail_if_refused(graph, outcome)
 }

@@ -7,7 +7,7 @@ use slotted_languages::Language;
 use slotted_slots::Error;
 
 /// Returns the outcome as it is, and fails the graph if the outcome is an error.
-pub(crate) fn failing<L: Language, N: Analysis<L>, T>(
+pub(crate) fn fail_if_refused<L: Language, N: Analysis<L>, T>(
     graph: &mut EGraph<L, N>,
     outcome: Result<T, Error>,
 ) -> Result<T, Error>

@@ -14,7 +14,7 @@ use slotted_slots::{Error, Id};
 use std::alloc::Global;
 
 // Returns the answer of a write, and makes the graph a failed one if the answer is an error.
-fn failing<L: Language, N: Analysis<L>>(
+fn fail_if_refused<L: Language, N: Analysis<L>>(
     graph: &mut EGraph<L, N>,
     answer: Result<bool, Error>,
 ) -> Result<bool, Error>
@@ -79,5 +79,5 @@ pub fn modify_class<L: Language, N: Analysis<L>>(
         return Ok(false);
     }
     let answer = modify_live(graph, alloc, id);
-    failing(graph, answer)
+    fail_if_refused(graph, answer)
 }

@@ -8,7 +8,7 @@ ghost use Rattle.slotted_graph.specs.Writing.{IfUnmodified};
 ghost use Rattle.slotted_rules.specs.Applying.{AreModified, AreRefusedBy, CanApplyAll, HasProgressed, RefusesRules};
 ghost use Rattle.slotted_rules.specs.Applying.{StopsApplying, StopsSearching, ThenModifies};
 
-use crate::failing::failing;
+use crate::failing::fail_if_short;
 use crate::modifying::modify_classes;
 use crate::rule::RewriteT;
 use slotted_data::Analysis;
@@ -162,6 +162,6 @@ pub fn apply_rewrites<L: Language, N: Analysis<L>, R: RewriteT<L, N>>(
     }
     let before = graph.progress();
     let applied = apply_and_modify(alloc, graph, rules);
-    failing(graph, applied)?;
+    fail_if_short(graph, applied)?;
     Ok(graph.progress() != before)
 }

@@ -8,7 +8,7 @@ ghost use Rattle.slotted_rules.specs.Counting.{RefusesRule};
 ghost use Rattle.slotted_rules.specs.Written.{CanBeSearched};
 ghost use Rattle.slotted_rules.specs.Counted.{BreaksTurns, TakesTurns};
 
-use crate::failing::failing;
+use crate::failing::fail_if_short;
 use crate::{Cond, Rewrite, TurnCounts, apply_counted};
 use slotted_data::Analysis;
 use slotted_graph::EGraph;
@@ -79,5 +79,5 @@ pub fn run_counted<L: Language, N: Analysis<L>, C: Cond<L, N>>(
         return Err(Error::Failed);
     }
     let taken = take_counted(alloc, graph, rules, turn_limit);
-    failing(graph, taken)
+    fail_if_short(graph, taken)
 }

@@ -13,7 +13,7 @@ ghost use Rattle.slotted_rules.specs.Written.{CanBeSearched};
 
 use crate::applying::search_all;
 use crate::condition::Cond;
-use crate::failing::failing;
+use crate::failing::fail_if_short;
 use crate::modifying::modify_classes;
 use crate::rewrite::Rewrite;
 use crate::written::apply_matches;
@@ -206,5 +206,5 @@ pub fn apply_counted<L: Language, N: Analysis<L>, C: Cond<L, N>>(
         return Err(Error::Failed);
     }
     let turn = count_turn(alloc, graph, rules);
-    failing(graph, turn)
+    fail_if_short(graph, turn)
 }

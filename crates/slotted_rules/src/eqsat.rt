@@ -15,7 +15,7 @@ ghost use Rattle.slotted_rules.specs.Turning.{Calls, RefusesTurn, RulesOnce};
 use crate::RewriteT;
 use crate::calling::apply_and_call;
 use crate::clock::Clock;
-use crate::failing::failing;
+use crate::failing::fail_if_short;
 use crate::hook::Hook;
 use crate::report::{Report, StopReason};
 use slotted_data::Analysis;
@@ -199,7 +199,7 @@ pub fn run_eqsat<L: Language, N: Analysis<L>, H: Hook<L, N, String>, K: Clock, Q
         start: clock.now(),
     };
     let outcome = take_turns(alloc, graph, rules, bounds, hook, clock);
-    let ended = failing(graph, outcome)?;
+    let ended = fail_if_short(graph, outcome)?;
     Ok(Report {
         iterations: ended.counted,
         stop_reason: ended.reason,

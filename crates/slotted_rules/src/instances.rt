@@ -16,7 +16,8 @@ ghost use Rattle.slotted_rules.specs.Instances.{AreValidValues, HasValues, Insta
 ghost use Rattle.slotted_rules.specs.Refusals.{IsFailedOrShort, IsMissing, IsRefusedBefore, PassesTests};
 ghost use Rattle.slotted_rules.specs.Refusals.{RefusesInstance, RefusesMissing};
 
-use crate::refusals::{check_values, failing};
+use crate::failing::fail_if_short;
+use crate::refusals::check_values;
 use crate::stored::build_stored;
 use slotted_data::Analysis;
 use slotted_graph::EGraph;
@@ -100,5 +101,5 @@ pub fn pattern_subst<L: Language, N: Analysis<L>>(
         return Err(Error::NotATerm);
     }
     let answer = instance(alloc, graph, pattern, subst);
-    failing(graph, answer)
+    fail_if_short(graph, answer)
 }

@@ -1,13 +1,11 @@
-//! Tests before anything is added, and the failure of a graph.
-ghost use Rattle.std.specs.Prelude.{◌≡◌, ◌⊎◌, true, IsErrAnd, IsOk, IsTrue, IfErr, OnOk};
-ghost use Rattle.slotted_slots.specs.Error.{IsOutOfMemory, IsShortage};
+//! Tests before anything is added.
+ghost use Rattle.std.specs.Prelude.{◌⊎◌, IfErr, OnOk};
+ghost use Rattle.slotted_slots.specs.Error.{IsOutOfMemory};
 ghost use Rattle.slotted_patterns.specs.View.{tree_of};
 ghost use Rattle.slotted_rule_patterns.specs.Values.{values_of};
 ghost use Rattle.slotted_rules.specs.Instances.{HasValues};
 ghost use Rattle.slotted_rules.specs.Refusals.{IsMissing};
 
-use slotted_data::Analysis;
-use slotted_graph::EGraph;
 use slotted_languages::Language;
 use slotted_patterns::Pattern;
 use slotted_rule_patterns::Subst;
@@ -29,20 +27,4 @@ pub(crate) fn check_values<L: Language>(
         Some(name) => Err(Error::MissingVariable(String::from_str(alloc, name)?)),
         None => Ok(()),
     }
-}
-
-/// Returns the answer of a structural write as it is, and fails the graph if memory or slots ran out.
-pub(crate) fn failing<L: Language, N: Analysis<L>, T>(
-    graph: &mut EGraph<L, N>,
-    answer: Result<T, Error>,
-) -> Result<T, Error>
-    ensures same { result ≡ answer }
-    ensures fails { IsErrAnd answer IsShortage → graph.new ≡ record graph.old { failed = true } }
-    ensures stays { (IsErrAnd answer IsShortage → ⊥) → graph.new ≡ graph.old }
-    ensures left { IsTrue graph.new.failed ⊎ (graph.new ≡ graph.old) }
-{
-    if let Err(Error::OutOfMemory | Error::OutOfSlots) = &answer {
-        graph.fail();
-    }
-    answer
 }

@@ -11,7 +11,7 @@ ghost use Rattle.slotted_rules.specs.Turning.{Calls, RefusesTurn, RulesOnce, mea
 
 use crate::RewriteT;
 use crate::clock::Clock;
-use crate::failing::failing;
+use crate::failing::fail_if_short;
 use crate::hook::Hook;
 use crate::iteration::IterationData;
 use crate::report::Report;
@@ -95,6 +95,6 @@ impl<
             return Err(Error::Failed);
         }
         let outcome = self.answer(rules);
-        failing(&mut self.egraph, outcome)
+        fail_if_short(&mut self.egraph, outcome)
     }
 }

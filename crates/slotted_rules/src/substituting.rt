@@ -8,7 +8,7 @@ ghost use Rattle.slotted_rules.specs.Building.{AssertsNothing};
 ghost use Rattle.slotted_rules.specs.Carried.{CarriesAlong};
 ghost use Rattle.slotted_rules.specs.Substituting.{StandsForReplaced};
 
-use crate::refusals::failing;
+use crate::failing::fail_if_short;
 use crate::substitution::replaced;
 use slotted_data::Analysis;
 use slotted_graph::EGraph;
@@ -46,5 +46,5 @@ pub fn subst_ids<L: Language, N: Analysis<L>>(
         return Err(Error::Failed);
     }
     let answer = replaced(alloc, graph, b, x, t);
-    failing(graph, answer)
+    fail_if_short(graph, answer)
 }

@@ -16,9 +16,10 @@ ghost use Rattle.slotted_rules.specs.Refusals.{AreMissing, HavePassed, IsEitherN
 ghost use Rattle.slotted_rules.specs.Refusals.{IsRefusedBefore, RefusesInstances};
 ghost use Rattle.slotted_rules.specs.Uniting.{UnitesInstances};
 
+use crate::failing::fail_if_short;
 use crate::filling::{are_full, full_values};
 use crate::listed::Listed;
-use crate::refusals::{check_values, failing};
+use crate::refusals::check_values;
 use crate::stored::build_stored_listed;
 use slotted_data::Analysis;
 use slotted_graph::EGraph;
@@ -209,7 +210,7 @@ pub(crate) fn union_listed<L: Language, N: Analysis<L>>(
     ensures only { IfErr result IsShortage }
 {
     let answer = unite_listed(alloc, graph, a, b, subst, text);
-    failing(graph, answer)
+    fail_if_short(graph, answer)
 }
 
 /// Asserts that instances of both patterns are equal, as `union_instantiations` does, and tests neither pattern.
@@ -237,7 +238,7 @@ pub fn union_tested<L: Language, N: Analysis<L>>(
     ensures only { IfErr result IsShortage }
 {
     let answer = unite(alloc, graph, a, b, subst, text);
-    failing(graph, answer)
+    fail_if_short(graph, answer)
 }
 
 // Unites both instances, if each variable has a value.
@@ -314,5 +315,5 @@ pub fn union_instantiations<L: Language, N: Analysis<L>>(
         return Err(Error::NotATerm);
     }
     let answer = test_and_unite(alloc, graph, a, b, subst, text);
-    failing(graph, answer)
+    fail_if_short(graph, answer)
 }

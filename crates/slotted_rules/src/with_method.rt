@@ -19,8 +19,9 @@ ghost use Rattle.slotted_rules.specs.Refusals.{IsFailedOrShort, IsMissing, Passe
 ghost use Rattle.slotted_rules.specs.Refusals.{RefusesMissing, RefusesTerm};
 
 use crate::building::build;
+use crate::failing::fail_if_short;
 use crate::method::OwnSubst;
-use crate::refusals::{check_values, failing};
+use crate::refusals::check_values;
 use slotted_data::Analysis;
 use slotted_graph::EGraph;
 use slotted_languages::Language;
@@ -105,5 +106,5 @@ pub fn subst_with<L: Language, N: Analysis<L>, M: OwnSubst<L, N>>(
         return Err(Error::NotATerm);
     }
     let answer = instance_by(alloc, graph, pattern, subst, method);
-    failing(graph, answer)
+    fail_if_short(graph, answer)
 }

@@ -22,7 +22,7 @@ ghost use Rattle.slotted_operations.specs.Graph.{OnlyTakesSlots};
 ghost use Rattle.slotted_rules.specs.Written.{CanBeSearched, PassesTests};
 
 use crate::condition::Cond;
-use crate::failing::failing;
+use crate::failing::fail_if_short;
 use crate::listed::Listed;
 use crate::rewrite::Rewrite;
 use crate::rule::RewriteT;
@@ -254,7 +254,7 @@ pub fn apply_matches<L: Language, N: Analysis<L>, C: Cond<L, N>>(
         return Err(Error::Failed);
     }
     let applied = apply_found(alloc, graph, rule, found);
-    failing(graph, applied)
+    fail_if_short(graph, applied)
 }
 
 impl<L: Language, N: Analysis<L>, C: Cond<L, N>> RewriteT<L, N> for Rewrite<L, C> {

@@ -17,21 +17,21 @@ returns-then-is_empty-clause-decided g c said =
 pub returns-clause-decided : goal.returns-clause-decided
 returns-clause-decided g c =
     let o = c.settle-outcome in
-    let f = c.failing.ensures in
-    left-ok c.args.graph.now o.new.graph c.failing.new.graph o.result c.failing.result f.same f.refused f.done (λ y h. IsTrue y → IsDecidedGraph h) o.ensures.decided
+    let f = c.fail_if_refused.ensures in
+    left-ok c.args.graph.now o.new.graph c.fail_if_refused.new.graph o.result c.fail_if_refused.result f.same f.refused f.done (λ y h. IsTrue y → IsDecidedGraph h) o.ensures.decided
 
 pub returns-clause-goes : goal.returns-clause-goes
 returns-clause-goes g c =
     let o = c.settle-outcome in
-    let f = c.failing.ensures in
-    left-goes c.args.graph.now o.new.graph c.failing.new.graph o.result c.failing.result f.same f.refused f.done
+    let f = c.fail_if_refused.ensures in
+    left-goes c.args.graph.now o.new.graph c.fail_if_refused.new.graph o.result c.fail_if_refused.result f.same f.refused f.done
     (on_ok_by o.result (leads-goes g.N.Analysis.codes g.N.Analysis.meaning c.args.graph.now o.new.graph) o.ensures.goes)
 
 pub returns-clause-lowers : goal.returns-clause-lowers
 returns-clause-lowers g c =
     let o = c.settle-outcome in
-    let f = c.failing.ensures in
-    left-holds c.args.graph.now o.new.graph c.failing.new.graph o.result c.failing.result f.same f.refused f.done (LowersData g.N.Analysis.codes g.N.Analysis.meaning c.args.graph.now)
+    let f = c.fail_if_refused.ensures in
+    left-holds c.args.graph.now o.new.graph c.fail_if_refused.new.graph o.result c.fail_if_refused.result f.same f.refused f.done (LowersData g.N.Analysis.codes g.N.Analysis.meaning c.args.graph.now)
     (on_ok_by o.result (λ l. l.lowers) o.ensures.goes)
 
 pub returns-then-is_empty-clause-lowers : goal.returns-then-is_empty-clause-lowers
@@ -40,6 +40,6 @@ returns-then-is_empty-clause-lowers g c = inr (lowers-itself g.N.Analysis.codes 
 pub returns-clause-fails : goal.returns-clause-fails
 returns-clause-fails g c =
     let o = c.settle-outcome in
-    let f = c.failing.ensures in
-    left-fails c.args.graph.now o.new.graph c.failing.new.graph o.result c.failing.result f.same f.refused f.done
+    let f = c.fail_if_refused.ensures in
+    left-fails c.args.graph.now o.new.graph c.fail_if_refused.new.graph o.result c.fail_if_refused.result f.same f.refused f.done
     (on_ok_by o.result (leads-goes g.N.Analysis.codes g.N.Analysis.meaning c.args.graph.now o.new.graph) o.ensures.goes)

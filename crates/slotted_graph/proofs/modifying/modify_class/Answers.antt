@@ -15,6 +15,6 @@ returns-clause-leaves g c =
     let ask = g.N.Analysis.may_ask in
     let old = c.args.graph.now in
     let id = c.args.id.0 in
-    handed-on (λ y h. LeavesModified codes meaning ask old h) c.modify_live-answer.result c.failing.result c.modify_live-answer.new.graph c.failing.new.graph c.failing.ensures.same c.failing.ensures.stays
+    handed-on (λ y h. LeavesModified codes meaning ask old h) c.modify_live-answer.result c.fail_if_refused.result c.modify_live-answer.new.graph c.fail_if_refused.new.graph c.fail_if_refused.ensures.same c.fail_if_refused.ensures.stays
     (if-ok (λ y. ModifiesClass codes meaning ask old id c.modify_live-answer.new.graph y) (λ y. LeavesModified codes meaning ask old c.modify_live-answer.new.graph) c.modify_live-answer.result
     (λ y m. class-leaves codes meaning g.met.N.Analysis.is_merge ask old id c.modify_live-answer.new.graph y (given (sym c.is_failed.ensures.failed ∙ c.if-is_failed.false) c.is_failed.ensures.rests) m) c.modify_live-answer.ensures.ok)

@@ -11,31 +11,31 @@ use Rattle.slotted_rules.proofs.counting.apply_counted.Goals as goal
 
 pub returns-clause-changed : goal.returns-clause-changed
 returns-clause-changed g c =
-    left-ok c.args.graph.now c.count_turn-turn.new.graph c.failing.new.graph c.count_turn-turn.result c.failing.result c.failing.ensures.same c.failing.ensures.short c.failing.ensures.other
+    left-ok c.args.graph.now c.count_turn-turn.new.graph c.fail_if_short.new.graph c.count_turn-turn.result c.fail_if_short.result c.fail_if_short.ensures.same c.fail_if_short.ensures.short c.fail_if_short.ensures.other
     (λ t h. IsTrue t.changed ↔ HasProgressed c.args.graph.now.image h.image) c.count_turn-turn.ensures.changed
 
 pub returns-clause-extends : goal.returns-clause-extends
 returns-clause-extends g c =
-    left-so (ExtendsTo c.args.graph.now) c.count_turn-turn.new.graph c.failing.new.graph c.count_turn-turn.result c.count_turn-turn.ensures.extends c.failing.ensures.short c.failing.ensures.other
+    left-so (ExtendsTo c.args.graph.now) c.count_turn-turn.new.graph c.fail_if_short.new.graph c.count_turn-turn.result c.count_turn-turn.ensures.extends c.fail_if_short.ensures.short c.fail_if_short.ensures.other
 
 pub returns-clause-failed : goal.returns-clause-failed
 returns-clause-failed g c =
     let form = g.L.LanguageChildren.form in
-    left-failed c.args.graph.now c.count_turn-turn.new.graph c.failing.new.graph c.count_turn-turn.result c.failing.result c.failing.ensures.same c.failing.ensures.short c.failing.ensures.other
+    left-failed c.args.graph.now c.count_turn-turn.new.graph c.fail_if_short.new.graph c.count_turn-turn.result c.fail_if_short.result c.fail_if_short.ensures.same c.fail_if_short.ensures.short c.fail_if_short.ensures.other
     (AreRefusedBy (RefusesRule form g.C.Cond.refuses) c.args.rules.now) (no-rule_fails form g.C.Cond.refuses (λ k s x. g.met.C.Cond.never_failed k s x) c.args.rules.now)
     (sym c.is_failed.ensures.failed ∙ c.if-is_failed.false) c.count_turn-turn.ensures.err
 
 pub returns-clause-fails : goal.returns-clause-fails
 returns-clause-fails g c =
     let form = g.L.LanguageChildren.form in
-    left-fails c.args.graph.now c.count_turn-turn.new.graph c.failing.new.graph c.count_turn-turn.result c.failing.result c.failing.ensures.same c.failing.ensures.short c.failing.ensures.other
+    left-fails c.args.graph.now c.count_turn-turn.new.graph c.fail_if_short.new.graph c.count_turn-turn.result c.fail_if_short.result c.fail_if_short.ensures.same c.fail_if_short.ensures.short c.fail_if_short.ensures.other
     (AreRefusedBy (RefusesRule form g.C.Cond.refuses) c.args.rules.now) (no-rule_fails form g.C.Cond.refuses (λ k s x. g.met.C.Cond.never_failed k s x) c.args.rules.now)
     c.count_turn-turn.ensures.fails c.count_turn-turn.ensures.err
 
 pub returns-clause-lowers : goal.returns-clause-lowers
-returns-clause-lowers g c = left-so (LowersData g.N.Analysis.codes g.N.Analysis.meaning c.args.graph.now) c.count_turn-turn.new.graph c.failing.new.graph c.count_turn-turn.result c.count_turn-turn.ensures.lowers c.failing.ensures.short c.failing.ensures.other
+returns-clause-lowers g c = left-so (LowersData g.N.Analysis.codes g.N.Analysis.meaning c.args.graph.now) c.count_turn-turn.new.graph c.fail_if_short.new.graph c.count_turn-turn.result c.count_turn-turn.ensures.lowers c.fail_if_short.ensures.short c.fail_if_short.ensures.other
 
 pub returns-clause-refused : goal.returns-clause-refused
 returns-clause-refused g c =
-    left-err c.args.graph.now c.count_turn-turn.new.graph c.failing.new.graph c.count_turn-turn.result c.failing.result c.failing.ensures.same c.failing.ensures.short c.failing.ensures.other
+    left-err c.args.graph.now c.count_turn-turn.new.graph c.fail_if_short.new.graph c.count_turn-turn.result c.fail_if_short.result c.fail_if_short.ensures.same c.fail_if_short.ensures.short c.fail_if_short.ensures.other
     (λ e h. RefusesCounted g.L.LanguageChildren.form g.C.Cond.answers g.C.Cond.refuses c.args.rules.now c.args.graph.now h e) c.count_turn-turn.ensures.refused

@@ -23,8 +23,8 @@ returns-clause-extends g c =
     let q = tree_of g.L.LanguageChildren.form c.args.b.now.pattern.now in
     let g0 = c.args.graph.now in
     let i = c.unite_listed-answer.new.graph in
-    left-extends g0 i c.failing.new.graph (λ e. ⊥) (λ e k. absurd k) c.unite_listed-answer.result (UnitesInstances g0 i s p q (text_bytes c.args.text)) (λ y u. u.extends)
-    c.unite_listed-answer.ensures.unites (if-err-mapped c.unite_listed-answer.result c.unite_listed-answer.ensures.only (λ e k. inl k)) c.failing.ensures.fails c.failing.ensures.stays
+    left-extends g0 i c.fail_if_short.new.graph (λ e. ⊥) (λ e k. absurd k) c.unite_listed-answer.result (UnitesInstances g0 i s p q (text_bytes c.args.text)) (λ y u. u.extends)
+    c.unite_listed-answer.ensures.unites (if-err-mapped c.unite_listed-answer.result c.unite_listed-answer.ensures.only (λ e k. inl k)) c.fail_if_short.ensures.short c.fail_if_short.ensures.other
 
 pub returns-clause-carries : goal.returns-clause-carries
-returns-clause-carries g c = left-carries g.N.Analysis.codes g.N.Analysis.meaning c.args.graph.now c.unite_listed-answer.new.graph c.failing.new.graph c.unite_listed-answer.ensures.carries c.failing.ensures.left
+returns-clause-carries g c = left-carries g.N.Analysis.codes g.N.Analysis.meaning c.args.graph.now c.unite_listed-answer.new.graph c.fail_if_short.new.graph c.unite_listed-answer.ensures.carries c.fail_if_short.ensures.left
