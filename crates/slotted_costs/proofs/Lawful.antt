@@ -12,7 +12,7 @@ use Rattle.slotted_languages.specs.NodeTerm.{nameless_node}
 use Rattle.slotted_model.specs.Cost.{AtMost, child_count}
 use Rattle.slotted_costs.specs.Costs.{costs_by, HasValuesFor}
 use Rattle.slotted_costs.specs.Laws.{IsOfLanguage, NeverFalls, CoversChildren, CostLaws}
-use Rattle.slotted_bare_nodes.proofs.Alike.{bare-shape, count-alike}
+use Rattle.slotted_outlines.proofs.BareNodes.{bare-shape, count-alike}
 
 not-greater : (r : Ordering) → is_le r ≡ true → is_gt r ≡ false
 not-greater Less h = refl

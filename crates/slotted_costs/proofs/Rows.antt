@@ -12,7 +12,7 @@ use Rattle.slotted_hashcons.specs.Filed.{Filing, filed_of}
 use Rattle.slotted_hashcons.specs.FiledRows.{row_of_entry, key_children}
 use Rattle.slotted_hashcons.proofs.FiledRows.{row-children}
 use Rattle.slotted_costs.specs.Costs.{costs_by}
-use Rattle.slotted_bare_nodes.proofs.Alike.{bare-shape}
+use Rattle.slotted_outlines.proofs.BareNodes.{bare-shape}
 use Rattle.slotted_costs.specs.Prices.{children_of, filing_children, filing_cost, filed_cost}
 
 -- a filed node that has a cost, with the costs of its children

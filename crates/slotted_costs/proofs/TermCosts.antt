@@ -18,7 +18,7 @@ use Rattle.slotted_model.specs.Cost.{CostFunction, null_children, child_costs, t
 use Rattle.slotted_terms.specs.Valid.{IsWhole}
 use Rattle.slotted_terms.proofs.TermPatterns.{filled_whole, AreWhole}
 use Rattle.slotted_costs.specs.Costs.{bare, bare_node, costs_by, cost_of_term}
-use Rattle.slotted_bare_nodes.proofs.Alike.{bare-moved}
+use Rattle.slotted_outlines.proofs.BareNodes.{bare-moved}
 
 whole-at : (us : List Term) (i : ℕ) (u : Term) → AreWhole us → i < length us → u ≡ get_or us i u → IsWhole u.args
 whole-at [] i u h lt is = absurd (omega arith)

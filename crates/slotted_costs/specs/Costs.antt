@@ -9,7 +9,7 @@ use Rattle.slotted_slots.specs.declared.error.Error.{Error}
 use Rattle.slotted_theory.specs.Nameless.{DTerm, nameless}
 use Rattle.slotted_theory.specs.Term.{Term}
 use Rattle.slotted_model.specs.Cost.{CostFunction, tree_cost}
-pub use Rattle.slotted_bare_nodes.specs.BareNodes.{bare, bare_node, HasValuesFor}
+pub use Rattle.slotted_outlines.specs.BareNodes.{bare, bare_node, HasValuesFor}
 
 -- costs in this order, by what a node costs of what is left of it and of the costs of its children
 abbrev pub costs_by : {C : Type 0} → (C → C → Ordering) → (DTerm → List C → C) → CostFunction C

@@ -22,7 +22,7 @@ use Rattle.slotted_classes.proofs.KeptLists.{length-nodes_of}
 use Rattle.slotted_hashcons.specs.FiledRows.{HasChildrenBelow, key_children}
 use Rattle.slotted_classes.proofs.ClassNodes.{node-is}
 use Rattle.slotted_hashcons.proofs.KeyChildren.{key_children-read}
-use Rattle.slotted_bare_nodes.specs.BareNodes.{bare_node}
+use Rattle.slotted_outlines.specs.BareNodes.{bare_node}
 use Rattle.slotted_data.specs.Meaning.{Meaning}
 use Rattle.slotted_data.specs.Held.{Held, Notes}
 use Rattle.slotted_data.specs.Made.{data_in, children_at, source_class, HasChildValues, made_in, AddsNext, AddsNew}

@@ -28,8 +28,8 @@ use Rattle.slotted_hashcons.specs.FiledRows.{IsFiled, Rows, key_children, row_of
 use Rattle.slotted_classes.proofs.ClassNodes.{node-is}
 use Rattle.slotted_hashcons.proofs.FiledRows.{row-children, row-filed, source-filed, sources-different}
 use Rattle.slotted_hashcons.specs.WellFiled.{state_in}
-use Rattle.slotted_bare_nodes.specs.BareNodes.{bare_node}
-use Rattle.slotted_bare_nodes.proofs.Alike.{bare-shape}
+use Rattle.slotted_outlines.specs.BareNodes.{bare_node}
+use Rattle.slotted_outlines.proofs.BareNodes.{bare-shape}
 use Rattle.slotted_data.specs.Meaning.{Meaning, by_bare_nodes}
 use Rattle.slotted_data.specs.Held.{Held, users_of}
 use Rattle.slotted_data.specs.Made.{data_in, children_at, child_values, source_class}

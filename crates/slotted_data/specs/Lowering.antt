@@ -20,7 +20,7 @@ use Rattle.slotted_classes.specs.Kept.{Kept, entries_of}
 use Rattle.slotted_hashcons.specs.Filed.{Filing}
 use Rattle.slotted_hashcons.specs.FiledRows.{Rows, rows_in}
 use Rattle.slotted_hashcons.specs.WellFiled.{state_in}
-use Rattle.slotted_bare_nodes.specs.BareNodes.{bare_node}
+use Rattle.slotted_outlines.specs.BareNodes.{bare_node}
 use Rattle.slotted_data.specs.Meaning.{Meaning}
 use Rattle.slotted_data.specs.Held.{Held, HasValue, users_of}
 use Rattle.slotted_data.specs.Made.{data_in, children_at, child_values}

@@ -11,7 +11,7 @@ use Rattle.slotted_model.specs.Correspondence.{AllDifferent}
 use Rattle.slotted_model.specs.Find.{Entry, find_class}
 use Rattle.slotted_classes.specs.Kept.{Kept, node_at, entries_of}
 use Rattle.slotted_hashcons.specs.FiledRows.{key_children}
-use Rattle.slotted_bare_nodes.specs.BareNodes.{bare_node}
+use Rattle.slotted_outlines.specs.BareNodes.{bare_node}
 use Rattle.slotted_data.specs.Meaning.{Meaning}
 use Rattle.slotted_data.specs.Held.{Held, users_of, HasNewValue}
 

@@ -7,7 +7,7 @@
 use Rattle.std.specs.Prelude.{◌≡◌, ◌≢◌, ◌<◌, refl}
 use Rattle.std.specs.Coded.{Coded}
 use base.Stored.{gnil}
-use Rattle.slotted_bare_nodes.specs.BareNodes.{bare}
+use Rattle.slotted_outlines.specs.BareNodes.{bare}
 use Rattle.slotted_model_analyses.specs.Analysis.{Analysis}
 
 abbrev pub Meaning : Type 0 → Type 0

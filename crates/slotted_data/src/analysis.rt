@@ -2,7 +2,7 @@
 ghost use Rattle.std.specs.Prelude.{◌≡◌, ℕ, List, All, IfOk, IfErr, IsTrue};
 ghost use Rattle.slotted_slots.specs.Error.{IsOutOfMemory, IsShortage};
 ghost use Rattle.slotted_slots.specs.declared.error.Error.{Error};
-ghost use Rattle.slotted_bare_nodes.specs.BareNodes.{HasValuesFor, bare_node};
+ghost use Rattle.slotted_outlines.specs.BareNodes.{HasValuesFor, bare_node};
 ghost use Rattle.slotted_data.specs.Meaning.{IsMergeOf, Meaning, by_bare_nodes};
 ghost use Rattle.slotted_data.specs.Edits.{IsOver};
 ghost use Rattle.slotted_model_analyses.specs.Analysis.{IsMerge, MakesAlike};

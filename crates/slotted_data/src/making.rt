@@ -5,7 +5,7 @@ ghost use Rattle.slotted_model.specs.Classes.{Canonical};
 ghost use Rattle.slotted_classes.specs.Finding.{HasFinds};
 ghost use Rattle.slotted_classes.specs.Kept.{entries_of, nodes_of};
 ghost use Rattle.slotted_hashcons.specs.FiledRows.{HasChildrenBelow, key_children};
-ghost use Rattle.slotted_bare_nodes.specs.BareNodes.{HasValuesFor};
+ghost use Rattle.slotted_outlines.specs.BareNodes.{HasValuesFor};
 ghost use Rattle.slotted_data.specs.Made.{AddsNew, AddsNext, HasChildValues, source_class};
 
 use crate::Analysis;

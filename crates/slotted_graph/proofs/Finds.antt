@@ -31,7 +31,7 @@ use Rattle.slotted_classes.specs.Kept.{Kept}
 use Rattle.slotted_hashcons.specs.FiledRows.{Rows, row_of_entry, rows_in}
 use Rattle.slotted_hashcons.proofs.FiledRows.{row-filed}
 use Rattle.slotted_lookup.proofs.AppliedNodes.{filed-key}
-use Rattle.slotted_bare_nodes.proofs.Alike.{count-node, count-moved}
+use Rattle.slotted_outlines.proofs.BareNodes.{count-node, count-moved}
 use Rattle.slotted_hashcons.specs.WellFiled.{state_in}
 use Rattle.slotted_operations.specs.Good.{Good, RestsWith, HasFreshSlots, image_of}
 use Rattle.slotted_operations.specs.Graph.{Graph}

@@ -5,26 +5,22 @@
 #![tactic(auto)]
 
 pub mod adding;
-pub mod editing;
+pub mod edits;
 pub mod egraph;
 pub mod entry;
 pub mod explaining;
 pub mod extracting;
 pub mod merging;
 pub mod method;
-pub mod modifying;
-pub mod rounds;
 pub mod terms;
 pub mod uniting;
 mod writes;
 
-pub use editing::make_edit;
+pub use edits::{make_edit, modify_class, modify_in_rounds, modify_once};
 pub use egraph::steps::Check;
 pub use egraph::{EGraph, totals_rise};
 pub use entry::TermEntry;
 pub use method::SubstMethod;
-pub use modifying::modify_class;
-pub use rounds::{modify_in_rounds, modify_once};
 pub use slotted_classes::Symmetry;
 pub use slotted_reports::ProgressMeasure;
 pub use terms::LeastTerms;

@@ -3,3 +3,4 @@ pub mod Seen
 pub mod Opened
 pub mod Binders
 pub mod Matched
+pub mod BareNodes

@@ -1,2 +1,3 @@
 -- What alpha-equality sees of two nodes side by side.
 pub mod Seen
+pub mod BareNodes

@@ -10,7 +10,7 @@ ghost use Rattle.slotted_graph.specs.Writing.{IfUnmodified};
 ghost use Rattle.slotted_graph.specs.States.{IsGraph};
 
 use super::EGraph;
-use crate::rounds::modify_in_rounds;
+use crate::edits::modify_in_rounds;
 use slotted_data::{Analysis, merge_value, pending_count, take_pending};
 use slotted_languages::Language;
 use slotted_slots::{Error, Id};

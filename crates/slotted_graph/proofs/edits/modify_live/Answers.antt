@@ -8,7 +8,7 @@ use Rattle.slotted_operations.specs.Reports.{names_slots}
 use Rattle.slotted_graph.specs.Asked.{IsAskedIn}
 use Rattle.slotted_graph.specs.Edited.{MakesEdits}
 use Rattle.slotted_graph.specs.Rounds.{modified}
-use Rattle.slotted_graph.proofs.modifying.modify_live.Goals as goal
+use Rattle.slotted_graph.proofs.edits.modify_live.Goals as goal
 
 pub make_edits-requires-clause-edits : goal.make_edits-requires-clause-edits
 make_edits-requires-clause-edits g c =

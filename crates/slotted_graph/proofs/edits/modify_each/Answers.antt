@@ -6,8 +6,8 @@ use Rattle.slotted_operations.specs.Reports.{class_numbers}
 use Rattle.slotted_graph.specs.Rounds.{all_modified}
 use Rattle.slotted_graph.proofs.Leaving.{each-leaves, each-then}
 use Rattle.slotted_graph.proofs.Saying.{more-then}
-use Rattle.slotted_graph.proofs.rounds.modify_each.Goals.{then-branch, else-branch}
-use Rattle.slotted_graph.proofs.rounds.modify_each.Goals as goal
+use Rattle.slotted_graph.proofs.edits.modify_each.Goals.{then-branch, else-branch}
+use Rattle.slotted_graph.proofs.edits.modify_each.Goals as goal
 
 pub loop-id-init : goal.loop-id-init
 loop-id-init g c = (c.requires, all_modified)

@@ -1,5 +1,5 @@
 use Rattle.slotted_graph.specs.Rounds.{HasTakenRounds}
-use Rattle.slotted_graph.proofs.rounds.modify_in_rounds.Given as goal
+use Rattle.slotted_graph.proofs.edits.modify_in_rounds.Given as goal
 
 -- the rounds so far
 abbrev pub invariant-loop : goal.invariant-loop

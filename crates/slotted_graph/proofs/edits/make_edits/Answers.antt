@@ -5,7 +5,7 @@ use Rattle.slotted_proofs.specs.Equations.{to_applied}
 use Rattle.slotted_graph.specs.Edited.{MakesEdit, MakesEdits, all_made, then_edit}
 use Rattle.slotted_graph.proofs.Leaving.{edits-extend}
 use Rattle.slotted_graph.proofs.Saying.{edit-later, more-then}
-use Rattle.slotted_graph.proofs.editing.make_edits.Goals as goal
+use Rattle.slotted_graph.proofs.edits.make_edits.Goals as goal
 
 pub loop-edit-init : goal.loop-edit-init
 loop-edit-init g c = (c.requires.graph, all_made)

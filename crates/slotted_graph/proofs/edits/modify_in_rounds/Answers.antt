@@ -4,8 +4,8 @@ use Rattle.slotted_graph.proofs.Insides.{given}
 use Rattle.slotted_graph.specs.Rounds.{no_rounds}
 use Rattle.slotted_graph.proofs.Leaving.{rounds-leave, rounds-then, some-wait}
 use Rattle.slotted_graph.proofs.Saying.{more-then}
-use Rattle.slotted_graph.proofs.rounds.modify_in_rounds.Goals.{then-branch, else-branch}
-use Rattle.slotted_graph.proofs.rounds.modify_in_rounds.Goals as goal
+use Rattle.slotted_graph.proofs.edits.modify_in_rounds.Goals.{then-branch, else-branch}
+use Rattle.slotted_graph.proofs.edits.modify_in_rounds.Goals as goal
 
 pub loop-init : goal.loop-init
 loop-init g c =

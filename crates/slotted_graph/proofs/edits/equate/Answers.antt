@@ -2,7 +2,7 @@ use Rattle.slotted_operations.proofs.CallerLemmas.{full-valid, term_later}
 use Rattle.slotted_proofs.specs.Equations.{to_applied}
 use Rattle.slotted_graph.proofs.Extending.{full-extends}
 use Rattle.slotted_graph.proofs.Saying.{if-ok, makes-equate}
-use Rattle.slotted_graph.proofs.editing.equate.Goals as goal
+use Rattle.slotted_graph.proofs.edits.equate.Goals as goal
 
 pub add_term-requires-2-clause-term : goal.add_term-requires-2-clause-term
 add_term-requires-2-clause-term g c = term_later c.args.graph.now.table c.add_term.new.graph.table c.in_ok-a.ensures.ok.extends.more c.args.right.now c.requires.right

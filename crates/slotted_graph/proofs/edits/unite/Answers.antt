@@ -1,5 +1,5 @@
 use Rattle.slotted_graph.proofs.Saying.{graph-kept, unites-ids}
-use Rattle.slotted_graph.proofs.editing.unite.Goals as goal
+use Rattle.slotted_graph.proofs.edits.unite.Goals as goal
 
 pub returns-clause-ok : goal.returns-clause-ok
 returns-clause-ok g c =

@@ -10,7 +10,7 @@ use Rattle.slotted_nodes.specs.Form.{Form, Tree, leaf, own, child, bind, scopes,
 use Rattle.slotted_languages.specs.NodeTerm.{node_args, nameless_node}
 use Rattle.slotted_model.specs.Cost.{child_count, null_children}
 use Rattle.slotted_model.proofs.LeastTerms.Costs.{alike-moved}
-use Rattle.slotted_bare_nodes.specs.BareNodes.{bare, bare_node}
+use Rattle.slotted_outlines.specs.BareNodes.{bare, bare_node}
 
 pub bare-moved : (f : ℕ → ℕ) → IsInjective f → (d : DTerm) → bare (moved f d) ≡ bare d
 bare-moved f inj d = alike-moved f inj d

@@ -1,7 +1,7 @@
 use Rattle.std.proofs.Common.{take}
 use Rattle.slotted_proofs.specs.Equations.{to_applied}
 use Rattle.slotted_graph.specs.Edited.{HasMadeEdits}
-use Rattle.slotted_graph.proofs.editing.make_edits.Given as goal
+use Rattle.slotted_graph.proofs.edits.make_edits.Given as goal
 
 -- the edits so far
 abbrev pub invariant-loop-edit : goal.invariant-loop-edit

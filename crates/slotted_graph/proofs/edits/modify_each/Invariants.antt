@@ -1,7 +1,7 @@
 use Rattle.std.proofs.Common.{take}
 use Rattle.slotted_operations.specs.Reports.{class_numbers}
 use Rattle.slotted_graph.specs.Rounds.{HasModified}
-use Rattle.slotted_graph.proofs.rounds.modify_each.Given as goal
+use Rattle.slotted_graph.proofs.edits.modify_each.Given as goal
 
 -- the classes so far
 abbrev pub invariant-loop-id : goal.invariant-loop-id

@@ -1,6 +1,6 @@
 use Rattle.slotted_proofs.specs.Equations.{to_applied}
 use Rattle.slotted_graph.proofs.Saying.{adds-term, graph-kept}
-use Rattle.slotted_graph.proofs.editing.add_term.Goals as goal
+use Rattle.slotted_graph.proofs.edits.add_term.Goals as goal
 
 pub returns-clause-ok : goal.returns-clause-ok
 returns-clause-ok g c =

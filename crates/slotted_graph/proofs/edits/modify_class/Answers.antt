@@ -3,7 +3,7 @@ use Rattle.slotted_graph.proofs.Insides.{given}
 use Rattle.slotted_graph.specs.Rounds.{LeavesModified, ModifiesClass}
 use Rattle.slotted_graph.proofs.Leaving.{class-leaves, leaves-itself}
 use Rattle.slotted_graph.proofs.Saying.{handed-on, if-ok}
-use Rattle.slotted_graph.proofs.modifying.modify_class.Goals as goal
+use Rattle.slotted_graph.proofs.edits.modify_class.Goals as goal
 
 pub returns-then-not-is_alive-clause-leaves : goal.returns-then-not-is_alive-clause-leaves
 returns-then-not-is_alive-clause-leaves g c = leaves-itself g.N.Analysis.codes g.N.Analysis.meaning g.met.N.Analysis.is_merge g.N.Analysis.may_ask c.args.graph.now (given (sym c.is_failed.ensures.failed ∙ c.if-is_failed.false) c.is_failed.ensures.rests)

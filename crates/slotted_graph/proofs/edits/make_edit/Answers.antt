@@ -4,7 +4,7 @@ use Rattle.slotted_proofs.specs.Equations.{to_applied}
 use Rattle.slotted_graph.proofs.Insides.{given}
 use Rattle.slotted_graph.specs.Edited.{MakesEdit}
 use Rattle.slotted_graph.proofs.Saying.{if-ok, makes-add, makes-equal}
-use Rattle.slotted_graph.proofs.editing.make_edit.Goals as goal
+use Rattle.slotted_graph.proofs.edits.make_edit.Goals as goal
 
 pub unite-requires-clause-left : goal.unite-requires-clause-left
 unite-requires-clause-left g c = c.in_ok-b-in-Equal.ensures.ok.extends.valid (to_applied c.args.class.now) (given (sym c.is_failed.ensures.failed ∙ c.if-is_failed.false) c.requires.class)

@@ -3,7 +3,7 @@ use Rattle.slotted_operations.specs.Reports.{class_numbers}
 use Rattle.slotted_graph.specs.Rounds.{LeavesModified, Modifies}
 use Rattle.slotted_graph.proofs.Leaving.{round-leaves}
 use Rattle.slotted_graph.proofs.Saying.{graph-kept, if-ok}
-use Rattle.slotted_graph.proofs.rounds.modify_once.Goals as goal
+use Rattle.slotted_graph.proofs.edits.modify_once.Goals as goal
 
 pub modify_each-requires : goal.modify_each-requires
 modify_each-requires g c = graph-kept c.take_pending.new.self c.take_pending.ensures.rests c.in_ok-ids.ensures.fails.0
