@@ -109,6 +109,12 @@ pub replaced-extends : (f h : Graph) (x t b : Applied) (r : Result AppliedId Err
 replaced-extends f h x t b (Ok a) ok err = inr ok.builds
 replaced-extends f h x t b (Err e) ok err = err
 
+pub replaced-rests : (f h : Graph) (x t b : Applied) (r : Result AppliedId Error) → IfOk r (λ a. Replaces f h x t b (to_applied a)) → OnErr r (IsTrue h.failed ⊎ Builds f h) → IsTrue h.failed ⊎ IsGraph h
+replaced-rests f h x t b r ok err = elim (replaced-extends f h x t b r ok err) [
+  | inl failed ↦ inl failed
+  | inr builds ↦ inr builds.grows.graph
+]
+
 pub extends-from : (f g h : Graph) → Builds f g → IsTrue h.failed ⊎ Builds g h → IsTrue h.failed ⊎ ExtendsTo f h
 extends-from f g h b (inl failed) = inl failed
 extends-from f g h b (inr c) = inr (builds-then f g h b c).grows.extends

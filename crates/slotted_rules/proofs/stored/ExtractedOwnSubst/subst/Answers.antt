@@ -9,10 +9,11 @@ use Rattle.slotted_proofs.specs.Equations.{to_applied}
 use Rattle.slotted_costs.specs.Costs.{costs_by}
 use Rattle.slotted_costs.specs.Size.{size_cost}
 use Rattle.slotted_graph.proofs.Extending.{extends-takes}
+use Rattle.slotted_graph.proofs.StatesLater.{graph-takes}
 use Rattle.slotted_rules.proofs.Carrying.{carried-along, carries-itself, carries-takes, carries-then, later-carries}
 use Rattle.slotted_rules.proofs.Answering.{ok-mapped}
 use Rattle.slotted_rules.proofs.Growing.{full-builds}
-use Rattle.slotted_rules.proofs.StoredMethods.{added-builds, entry-found, extends-from, extracted-answers, replaced-extends}
+use Rattle.slotted_rules.proofs.StoredMethods.{added-builds, entry-found, extends-from, extracted-answers, replaced-extends, replaced-rests}
 use Rattle.slotted_rules.proofs.stored.ExtractedOwnSubst.subst.Goals as goal
 
 pub least_term-requires : goal.least_term-requires
@@ -116,3 +117,11 @@ returns-clause-carries g c =
     let builds = added-builds g0 e f c.requires.graph c.least_term.ensures.takes c.in_ok-body.ensures.extends c.in_ok-body.ensures.adds c.add_syn_expr_quietly.ensures.more c.add_syn_expr_quietly.ensures.rests well in
     let kept = carries-then g.N.Analysis.codes g.N.Analysis.meaning g.met.N.Analysis.is_merge g0 e f (extends-takes g0 e c.least_term.ensures.takes) (carries-takes g.N.Analysis.codes g.N.Analysis.meaning g.met.N.Analysis.is_merge g0 e c.least_term.ensures.takes) (carried-along g.N.Analysis.codes g.N.Analysis.meaning e f c.in_ok-body.ensures.carries) in
     later-carries g.N.Analysis.codes g.N.Analysis.meaning g.met.N.Analysis.is_merge g0 f c.replaced.new.graph builds.grows.extends kept c.replaced.ensures.carries
+
+pub returns-in_err-term-clause-rests : goal.returns-in_err-term-clause-rests
+returns-in_err-term-clause-rests g c =
+    inr (graph-takes c.args.graph.now c.least_term.new.self c.requires.graph c.least_term.ensures.takes)
+
+pub returns-clause-rests : goal.returns-clause-rests
+returns-clause-rests g c =
+    replaced-rests c.add_syn_expr_quietly.new.self c.replaced.new.graph (to_applied c.args.x) (to_applied c.args.t) (to_applied c.in_ok-body.body) c.replaced.result c.replaced.ensures.ok c.replaced.ensures.err
