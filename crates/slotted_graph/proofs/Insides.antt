@@ -1,5 +1,5 @@
 -- What each call knows of a graph that has not failed: how its parts tell what contracts see, and what its invariant says of them.
-use Rattle.std.proofs.Common.{◌≡◌, ◌⊎◌, ◌∙◌, false, ap, sym, inl, inr, refl}
+use Rattle.std.proofs.Common.{◌≡◌, ◌⊎◌, ◌∙◌, false, ap, sym, subst, inl, inr, refl}
 use Rattle.std.specs.Prelude.{Bool, IsTrue}
 use Rattle.std.proofs.lemmas.Bool.{false≢true}
 use base.Stored.{Gv}
@@ -51,9 +51,9 @@ pub data-inside : {N D X : Type 0} (meaning : N → Meaning D) (n : N) {t : Tabl
 data-inside meaning n f invariant = (given f invariant).4
 
 -- parts that are good and rebuilt are those of a graph
-pub rebuilt-by : (t : Table) (k : Kept) (r : Rows) (part : Gv) → Good k → HasFreshSlots t k → RestsWith k r → IsGraph (graph_of false t k (rows_in r.filed) part)
-rebuilt-by t k r part good fresh rests = record {
-  well = refl;
+pub rebuilt-unless : (b : Bool) → b ≡ false → (t : Table) (k : Kept) (r : Rows) (part : Gv) → Good k → HasFreshSlots t k → RestsWith k r → IsGraph (graph_of b t k (rows_in r.filed) part)
+rebuilt-unless b f t k r part good fresh rests = record {
+  well = f;
   state = state_in k r;
   is_state = record {
     kept = k;
@@ -63,6 +63,25 @@ rebuilt-by t k r part good fresh rests = record {
     fresh = fresh;
     image = refl;
     filed = refl;
+    state = refl;
+  };
+}
+
+pub rebuilt-by : (t : Table) (k : Kept) (r : Rows) (part : Gv) → Good k → HasFreshSlots t k → RestsWith k r → IsGraph (graph_of false t k (rows_in r.filed) part)
+rebuilt-by = rebuilt-unless false refl
+
+pub rebuilt-inside : (g : Graph) (t : Table) (k : Kept) (r : Rows) → Inside g t k r → IsGraph g
+rebuilt-inside g t k r inside = record {
+  well = inside.failed;
+  state = state_in k r;
+  is_state = record {
+    kept = k;
+    rows = r;
+    good = inside.good;
+    rests = inside.rests;
+    fresh = subst (λ (x : Table). HasFreshSlots x k) inside.table inside.fresh;
+    image = inside.image;
+    filed = inside.filed;
     state = refl;
   };
 }

@@ -12,7 +12,7 @@ use Rattle.slotted_proofs.specs.StepClaims.{IsOfFull}
 use Rattle.slotted_operations.proofs.Graphs.ProofSteps.{both_ok, Checked, congruent_checked, congruent_refused, kept_good, says_refused, says_fits, says_accepted, says_derivable, says_leaves}
 use Rattle.slotted_graph.proofs.Analysed.{data-checked}
 use Rattle.slotted_graph.proofs.Indexes.{no-index}
-use Rattle.slotted_graph.proofs.Insides.{data-inside, rebuilt-by}
+use Rattle.slotted_graph.proofs.Insides.{data-inside, inside-of, rebuilt-inside, rebuilt-unless}
 use Rattle.slotted_graph.proofs.egraph.steps.CongruenceProofCheck.check.Goals as goal
 
 pub invariant_of-graph : goal.invariant_of-graph
@@ -119,4 +119,11 @@ returns-clause-rests g c =
     let ok = subst (λ qs. IfOk r (EntersIn k l (by_step (statement_of e) (congruent qs)))) c.in_ok-copy.ensures.ok c.check_congruent.ensures.ok in
     let checked = both_ok r (λ p. IsOfFull (nodes_of k) e × IsCongruentIn k e ps) (EntersIn k l (by_step (statement_of e) (congruent ps))) (Checked t k l e (congruent ps)) (λ p f x. congruent_checked t k l e ps p h.0 f x) fits ok in
     let kept = kept_good r t k l rows e (congruent ps) h checked c.check_congruent.ensures.err in
-    inr (rebuilt-by t l rows _ kept.0 kept.1 kept.2)
+    inr (rebuilt-unless c.graph.inside.failed c.if-graph.false t l rows _ kept.0 kept.1 kept.2)
+
+pub returns-in_err-copy-clause-rests : goal.returns-in_err-copy-clause-rests
+returns-in_err-copy-clause-rests g c =
+    let k = c.graph.inside.store in
+    let t = c.graph.inside.table in
+    let r = c.graph.inside.nodes in
+    inr (rebuilt-inside c.args.graph.now t k r (inside-of t k r c.graph.view_is c.if-graph.false c.graph.invariant))

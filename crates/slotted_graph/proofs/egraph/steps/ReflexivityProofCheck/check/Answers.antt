@@ -9,7 +9,7 @@ use Rattle.slotted_proofs.specs.StepClaims.{IsOfFull}
 use Rattle.slotted_operations.proofs.Graphs.ProofSteps.{both_ok, Checked, reflexive_checked, kept_good, says_accepted, says_derivable, says_leaves}
 use Rattle.slotted_graph.proofs.Analysed.{data-checked}
 use Rattle.slotted_graph.proofs.Indexes.{no-index}
-use Rattle.slotted_graph.proofs.Insides.{data-inside, rebuilt-by}
+use Rattle.slotted_graph.proofs.Insides.{data-inside, rebuilt-unless}
 use Rattle.slotted_graph.proofs.egraph.steps.ReflexivityProofCheck.check.Goals as goal
 
 pub invariant_of-graph : goal.invariant_of-graph
@@ -75,4 +75,4 @@ returns-clause-rests g c =
     let h : Good k × HasFreshSlots t k × RestsWith k rows = elim c.graph.invariant [ inl h ↦ absurd (false≢true (sym c.if-graph.false ∙ h)) | inr h ↦ (h.0, h.1, h.2) ] in
     let checked = both_ok r (λ p. IsOfFull (nodes_of k) e × IsReflexiveStep e) (EntersIn k l (by_step (statement_of e) (reflexive))) (Checked t k l e (reflexive)) (λ p f x. reflexive_checked t k l e p h.0 f x) c.check_reflexive.ensures.fits c.check_reflexive.ensures.ok in
     let kept = kept_good r t k l rows e (reflexive) h checked c.check_reflexive.ensures.err in
-    inr (rebuilt-by t l rows _ kept.0 kept.1 kept.2)
+    inr (rebuilt-unless c.graph.inside.failed c.if-graph.false t l rows _ kept.0 kept.1 kept.2)

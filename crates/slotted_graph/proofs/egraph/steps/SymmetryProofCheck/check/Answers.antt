@@ -9,7 +9,7 @@ use Rattle.slotted_proofs.specs.StepClaims.{IsOfFull}
 use Rattle.slotted_operations.proofs.Graphs.ProofSteps.{both_ok, Checked, symmetric_checked, symmetric_refused, kept_good, says_refused, says_fits, says_accepted, says_derivable, says_leaves}
 use Rattle.slotted_graph.proofs.Analysed.{data-checked}
 use Rattle.slotted_graph.proofs.Indexes.{no-index}
-use Rattle.slotted_graph.proofs.Insides.{data-inside, rebuilt-by}
+use Rattle.slotted_graph.proofs.Insides.{data-inside, rebuilt-unless}
 use Rattle.slotted_graph.proofs.egraph.steps.SymmetryProofCheck.check.Goals as goal
 
 pub invariant_of-graph : goal.invariant_of-graph
@@ -97,4 +97,4 @@ returns-clause-rests g c =
     let h : Good k × HasFreshSlots t k × RestsWith k rows = elim c.graph.invariant [ inl h ↦ absurd (false≢true (sym c.if-graph.false ∙ h)) | inr h ↦ (h.0, h.1, h.2) ] in
     let checked = both_ok r (λ p. IsOfFull (nodes_of k) e × IsSymmetricStep k.proofs e c.args.self.now.0) (EntersIn k l (by_step (statement_of e) (symmetric c.args.self.now.0))) (Checked t k l e (symmetric c.args.self.now.0)) (λ p f x. symmetric_checked t k l e c.args.self.now.0 p h.0 f x) c.check_symmetric.ensures.fits c.check_symmetric.ensures.ok in
     let kept = kept_good r t k l rows e (symmetric c.args.self.now.0) h checked c.check_symmetric.ensures.err in
-    inr (rebuilt-by t l rows _ kept.0 kept.1 kept.2)
+    inr (rebuilt-unless c.graph.inside.failed c.if-graph.false t l rows _ kept.0 kept.1 kept.2)
