@@ -1,6 +1,8 @@
 -- What the methods of a graph answer for `b[x := t]`.
 use Rattle.std.proofs.Common.{◌≡◌, ◌∙◌, ap, sym, subst, inl, inr, ℕ, zero, suc, ◌<◌, List, [], ◌∷◌, Option, arith}
-use Rattle.std.specs.Prelude.{◌⊎◌, IsTrue, IfOk, Contains, OnErr, Result, Ok, Err, slice_index_or}
+use Rattle.std.specs.Prelude.{◌⊎◌, IsErrAnd, IsTrue, IfErr, IfOk, Contains, OnErr, Result, Ok, Err, slice_index_or}
+use Rattle.std.proofs.lemmas.Bool.{false≢true}
+use Rattle.slotted_slots.specs.Error.{IsShortage}
 use Rattle.std.specs.Ordering.{nat_cmp}
 use Rattle.slotted_lists.proofs.Contained.{contains_head}
 use Rattle.slotted_slots.specs.declared.error.Error.{Error}
@@ -114,6 +116,14 @@ replaced-rests f h x t b r ok err = elim (replaced-extends f h x t b r ok err) [
   | inl failed ↦ inl failed
   | inr builds ↦ inr builds.grows.graph
 ]
+
+pub replaced-fails : (f h : Graph) (x t b : Applied) (r : Result AppliedId Error) → IfOk r (λ a. Replaces f h x t b (to_applied a)) → IfErr r IsShortage → IsTrue h.failed → IsErrAnd r IsShortage
+replaced-fails f h x t b (Ok a) ok only failed = absurd (false≢true (sym ok.builds.grows.graph.well ∙ failed))
+replaced-fails f h x t b (Err e) ok only failed = only
+
+pub only-short : {A : Type 0} (r : Result A Error) → IfErr r IsShortage → IfErr r (λ e. IsShortage e ⊎ ⊥)
+only-short (Ok x) only = tt
+only-short (Err e) only = inl only
 
 pub extends-from : (f g h : Graph) → Builds f g → IsTrue h.failed ⊎ Builds g h → IsTrue h.failed ⊎ ExtendsTo f h
 extends-from f g h b (inl failed) = inl failed

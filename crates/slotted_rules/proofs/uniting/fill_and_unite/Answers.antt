@@ -38,8 +38,8 @@ pub build_stored_listed-requires-2-clause-given : goal.build_stored_listed-requi
 build_stored_listed-requires-2-clause-given g c =
     filled-given c.args.graph.now.table c.args.graph.now.image.canonical (values_of c.args.subst.now) (values_of c.in_ok-filled.filled) (tree_of g.L.LanguageChildren.form c.args.b.now.pattern.now) c.in_ok-filled.ensures.fills c.requires.given_right
 
-pub union_quietly-united-requires-clause-left : goal.union_quietly-united-requires-clause-left
-union_quietly-united-requires-clause-left g c = inr (c.in_ok-right.ensures.ok.grows.extends.valid (to_applied c.in_ok-left.left) c.in_ok-left.ensures.ok.valid)
+pub union_quietly-requires-clause-left : goal.union_quietly-requires-clause-left
+union_quietly-requires-clause-left g c = inr (c.in_ok-right.ensures.ok.grows.extends.valid (to_applied c.in_ok-left.left) c.in_ok-left.ensures.ok.valid)
 
 pub returns-clause-unites : goal.returns-clause-unites
 returns-clause-unites g c =

@@ -22,8 +22,8 @@ build_stored_listed-requires-2-clause-values g c =
     full-values-valid c.build_stored_listed.new.graph (values_of c.args.subst.now)
     (full-values-later c.args.graph.now c.build_stored_listed.new.graph (values_of c.args.subst.now) c.in_ok-left.ensures.ok.grows.extends c.requires.full)
 
-pub union_quietly-answer-requires-clause-left : goal.union_quietly-answer-requires-clause-left
-union_quietly-answer-requires-clause-left g c = inr (c.in_ok-right.ensures.ok.grows.extends.valid (to_applied c.in_ok-left.left) c.in_ok-left.ensures.ok.valid)
+pub union_quietly-requires-clause-left : goal.union_quietly-requires-clause-left
+union_quietly-requires-clause-left g c = inr (c.in_ok-right.ensures.ok.grows.extends.valid (to_applied c.in_ok-left.left) c.in_ok-left.ensures.ok.valid)
 
 pub returns-clause-unites : goal.returns-clause-unites
 returns-clause-unites g c =

@@ -13,7 +13,7 @@ use Rattle.slotted_graph.proofs.StatesLater.{graph-takes}
 use Rattle.slotted_rules.proofs.Carrying.{carried-along, carries-itself, carries-takes, carries-then, later-carries}
 use Rattle.slotted_rules.proofs.Answering.{ok-mapped}
 use Rattle.slotted_rules.proofs.Growing.{full-builds}
-use Rattle.slotted_rules.proofs.StoredMethods.{added-builds, entry-found, extends-from, extracted-answers, replaced-extends, replaced-rests}
+use Rattle.slotted_rules.proofs.StoredMethods.{added-builds, entry-found, extends-from, extracted-answers, only-short, replaced-extends, replaced-fails, replaced-rests}
 use Rattle.slotted_rules.proofs.stored.ExtractedOwnSubst.subst.Goals as goal
 
 pub least_term-requires : goal.least_term-requires
@@ -125,3 +125,10 @@ returns-in_err-term-clause-rests g c =
 pub returns-clause-rests : goal.returns-clause-rests
 returns-clause-rests g c =
     replaced-rests c.add_syn_expr_quietly.new.self c.replaced.new.graph (to_applied c.args.x) (to_applied c.args.t) (to_applied c.in_ok-body.body) c.replaced.result c.replaced.ensures.ok c.replaced.ensures.err
+
+pub returns-clause-fails : goal.returns-clause-fails
+returns-clause-fails g c =
+    replaced-fails c.add_syn_expr_quietly.new.self c.replaced.new.graph (to_applied c.args.x) (to_applied c.args.t) (to_applied c.in_ok-body.body) c.replaced.result c.replaced.ensures.ok c.replaced.ensures.only
+
+pub returns-clause-only : goal.returns-clause-only
+returns-clause-only g c = only-short c.replaced.result c.replaced.ensures.only
